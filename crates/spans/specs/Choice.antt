@@ -1,0 +1,12 @@
+-- Choosing by a test, in definitions that compute.
+use mathlib.Core.List.{List, [], _∷_}
+use mathlib.Core.Bool.{Bool, true, false, _&&_}
+
+-- the first where the test holds, else the second
+abbrev pub pick {ℓ} : {A : Type ℓ} → Bool → A → A → A
+pick true a b = a
+pick false a b = b
+
+unfoldable pub every : List Bool → Bool
+every [] = true
+every (b ∷ bs) = b && every bs
