@@ -1,0 +1,5 @@
+pub mod Geometry
+pub mod Build
+pub mod Base
+pub mod Operations
+pub mod Harm
