@@ -1,3 +1,5 @@
 pub mod Bytes
 pub mod Choice
 pub mod Laws
+pub mod CutOff
+pub mod Folds

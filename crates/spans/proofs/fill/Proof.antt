@@ -1,60 +1,28 @@
-use mathlib.Core.Path.{_≡_, refl, sym, ap, _∙_}
-use Prim.Native.Nat.{_≤_, _-_, _+_, ℕ}
-use native.Mathlib.Omega.{arith}
+use Rattle.spans.specs.CutOff.{blank-least}
 use borrow.Author.Needs.{needs}
-use lib.ListN.{length, set}
-use Rattle.spans.specs.Bytes.{put, blank}
-use Rattle.spans.specs.Laws.{length-put, put-nil, erase-next}
 use Rattle.spans.proofs.fill.Statement.{statement}
 use Rattle.spans.proofs.fill.Tie as tie
 use Rattle.spans.proofs.fill.Reads as reads
 use Rattle.spans.proofs.fill.Lts as lts
+use Rattle.spans.proofs.fill_within.Reads as fill-within-reads
+use Rattle.spans.proofs.least.Reads as least-reads
+use Rattle.spans.proofs.room.Reads as room-reads
 
-abbrev Inv-loop : tie.InvT-loop
-Inv-loop area₀ at size i₀ area i = (i ≤ size) × (area ≡ put area₀ at (blank i))
+room-requires : tie.Need-room-requires
+room-requires c κs = search needs
 
-abbrev μ-loop : tie.MeasureT-loop
-μ-loop area₀ at size i₀ area i = size - i
+least-requires : tie.Need-least-requires
+least-requires c κs = search needs
 
-loop-holds : tie.Need-loop-holds Inv-loop μ-loop
-unfolding blank
-loop-holds c = (omega arith, sym (put-nil _ _))
+fill-within-requires : tie.Need-fill-within-requires
+fill-within-requires c κs = search needs
 
-add-area : tie.Need-add-area Inv-loop μ-loop
-add-area c = search needs
+same-length : tie.Need-same-length
+same-length c = search needs
 
-slice-write-area : tie.Need-slice-write-area Inv-loop μ-loop
-slice-write-area c = omega (arith, simp length-put at (ap length (c .before .loop .inv .1)))
-
-add-i : tie.Need-add-i Inv-loop μ-loop
-add-i c = search needs
-
-loop-less : tie.Need-loop-less Inv-loop μ-loop
-loop-less c = search needs
-
-loop-again : tie.Need-loop-again Inv-loop μ-loop
-loop-again c =
-    (omega arith, rw (c .before .loop .inv .1) (erase-next (c .before .before .args .area .now) (c .before .before .args .at) (c .before .loop .i)))
-
-same-length : tie.Need-same-length Inv-loop μ-loop
-same-length c = simp length-put at (ap length (c .before .loop .inv .1))
-
-returns : tie.Need-returns Inv-loop μ-loop
-returns c =
-    let e : c .before .loop .i ≡ c .before .before .args .size = omega arith in
-    c .before .loop .inv .1 ∙ ap (λ (n : ℕ). put (c .before .before .args .area .now) (c .before .before .args .at) (blank n)) e
+returns : tie.Need-returns
+returns c = cc (blank-least (c .before .before .before .before .before .before .before .args .area .now) (c .before .before .before .before .before .before .before .args .at) (c .before .before .before .before .before .before .before .args .size))
 
 pub fill-spec : {M : Type 1} → statement M
 fill-spec =
-    tie.close
-    (tie.spec
-    Inv-loop
-    μ-loop
-    loop-holds
-    add-area
-    slice-write-area
-    add-i
-    loop-less
-    loop-again
-    same-length
-    returns)
+    tie.close (tie.spec room-requires least-requires fill-within-requires same-length returns)

@@ -1,0 +1,27 @@
+use mathlib.Core.Path.{sym}
+use native.Mathlib.Omega.{arith}
+use Rattle.spans.specs.Bytes.{blank}
+use Rattle.spans.specs.Laws.{length-blank}
+use Rattle.spans.specs.Folds.{short-part}
+use borrow.Author.Needs.{needs}
+use Rattle.spans.proofs.all_blank.Statement.{statement}
+use Rattle.spans.proofs.all_blank.Tie as tie
+use Rattle.spans.proofs.all_blank.Reads as reads
+use Rattle.spans.proofs.all_blank.Lts as lts
+use Rattle.spans.proofs.blank_within.Reads as blank-within-reads
+use Rattle.spans.proofs.room.Reads as room-reads
+
+room-requires : tie.Need-room-requires
+room-requires c κs = search needs
+
+blank-within-requires : tie.Need-blank-within-requires
+blank-within-requires c κs = search needs
+
+returns : tie.Need-returns
+returns c = sym (short-part (c .before .before .before .args .area .now) (c .before .before .before .args .at) (blank (c .before .before .before .args .size)) (c .before .before .before .args .size) (omega arith) (length-blank (c .before .before .before .args .size)))
+
+returns-2 : tie.Need-returns-2
+returns-2 c = search needs
+
+pub all-blank-spec : {M : Type 1} → statement M
+all-blank-spec = tie.close (tie.spec room-requires blank-within-requires returns returns-2)
