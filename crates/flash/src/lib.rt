@@ -1,3 +1,11 @@
+ghost use mathlib.Core.Path.{_≡_};
+ghost use mathlib.Core.Bool.{_||_};
+ghost use Prim.Native.Nat.{ℕ, _+_, _*_, _≤_, _<_};
+ghost use lib.Dec.{eqb};
+ghost use Rattle.spans.specs.Bytes.{part};
+ghost use Rattle.flash.specs.Geometry.{startOf, placeOf, unitAt, firstUnit};
+ghost use Rattle.flash.specs.Small.{Small};
+
 // The write unit's bytes, the sector's bytes, the sectors of a slot.
 pub struct Geometry {
     pub unit: usize,
@@ -26,4 +34,37 @@ pub enum End {
 pub struct Run {
     pub left: u64,
     pub end: End,
+}
+
+// The named functions that turn one kind of number into another.
+
+pub fn start_of(g: Geometry, i: Sector) -> Offset
+    requires { ⌜ Small g ⌝ }
+    requires { ⌜ i .0 ≤ 128 ⌝ }
+    ensures { λ r. ⌜ r ≡ startOf g i ⌝ }
+{
+    Offset(i.0 * g.sector)
+}
+
+pub fn place_of(g: Geometry, u: Unit) -> Offset
+    requires { ⌜ Small g ⌝ }
+    requires { ⌜ u .0 ≤ 8388608 ⌝ }
+    ensures { λ r. ⌜ r ≡ placeOf g u ⌝ }
+{
+    Offset(u.0 * g.unit)
+}
+
+pub fn unit_at(g: Geometry, o: Offset) -> Unit
+    requires { ⌜ Small g ⌝ }
+    ensures { λ r. ⌜ r ≡ unitAt g o ⌝ }
+{
+    Unit(o.0 / g.unit)
+}
+
+pub fn first_unit(g: Geometry, i: Sector) -> Unit
+    requires { ⌜ Small g ⌝ }
+    requires { ⌜ i .0 ≤ 128 ⌝ }
+    ensures { λ r. ⌜ r ≡ firstUnit g i ⌝ }
+{
+    Unit(i.0 * (g.sector / g.unit))
 }

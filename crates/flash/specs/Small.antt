@@ -1,0 +1,11 @@
+-- The bounds of document 01's geometries, as code relies on them: every product of them fits.
+use Prim.Native.Nat.{_+_, _*_, _≤_, _<_}
+use Rattle.flash.specs.declared.Geometry.{Geometry}
+
+pub record Small (g : Geometry) : Type 0 where
+  pub positive : 0 < g .unit
+  pub eight : g .unit ≤ 8
+  pub room : 384 * g .unit + 32 ≤ g .sector
+  pub large : g .sector ≤ 65536
+  pub two : 2 ≤ g .sectors
+  pub many : g .sectors ≤ 128
