@@ -3,3 +3,4 @@ pub mod Build
 pub mod Base
 pub mod Operations
 pub mod Harm
+pub mod AreaLaws
