@@ -1,2 +1,4 @@
 pub mod All
 pub mod Cuts
+pub mod Windows
+pub mod Places
