@@ -4,3 +4,4 @@ pub mod Base
 pub mod Operations
 pub mod Harm
 pub mod Small
+pub mod AreaLaws

@@ -1,13 +1,16 @@
 -- Laws of part, put, blank and same.
-use mathlib.Core.Path.{_≡_, refl, sym, ap, _∙_}
+use mathlib.Core.Path.{_≡_, refl, sym, ap, ap₂, _∙_}
 use mathlib.Core.List.{List, [], _∷_, _++_}
-use Prim.Native.Nat.{ℕ, zero, suc, _+_, _-_, _≤_, _<_}
-use native.Mathlib.Nat.{zero-add, suc-add, add-zero}
+use mathlib.Core.Bool.{Bool, true, false, _&&_}
+use Prim.Native.Nat.{ℕ, zero, suc, _+_, _*_, _-_, _≤_, _<_}
+use native.Mathlib.Nat.{zero-add, suc-add, add-zero, zero-mul}
 use native.Mathlib.Numerals.{add-one}
 use native.Mathlib.Omega.{arith}
 use lib.ListN.{length, take, drop, set, getD, length-replicate, length-take, length-drop}
-use lib.Seq.{getD-drop, take-suc}
-use Rattle.spans.specs.Bytes.{part, put, blank}
+use lib.Seq.{getD-drop, take-suc, take-take, take-add, drop-drop}
+use lib.Dec.{eqb}
+use borrow.Author.Tests.{eqb-true, eq-eqb}
+use Rattle.spans.specs.Bytes.{part, put, blank, same}
 
 -- what it says in other words
 pub put-is : (xs : List ℕ) (at : ℕ) (ys : List ℕ) → at + length ys ≤ length xs → put xs at ys ≡ take at xs ++ ys ++ drop (at + length ys) xs
@@ -140,6 +143,53 @@ put-all [] [] h = refl
 put-all [] (y ∷ ys) h = absurd (omega arith)
 put-all (x ∷ xs) [] h = absurd (omega arith)
 put-all (x ∷ xs) (y ∷ ys) h = ap {B = List ℕ} (λ r. y ∷ r) (put-all xs ys (omega arith))
+
+-- ---- parts of parts
+
+take-drop-take : (xs : List ℕ) (l o m : ℕ) → o + m ≤ l → take m (drop o (take l xs)) ≡ take m (drop o xs)
+take-drop-take xs l zero m h = take-take m l xs (omega arith)
+take-drop-take xs zero (suc o) m h = absurd (omega arith)
+take-drop-take [] (suc l) (suc o) m h = refl
+take-drop-take (x ∷ xs) (suc l) (suc o) m h = take-drop-take xs l o m (omega arith)
+
+pub part-part : (xs : List ℕ) (a l o m : ℕ) → o + m ≤ l → part (part xs a l) o m ≡ part xs (a + o) m
+unfolding part
+part-part xs a l o m h = take-drop-take (drop a xs) l o m h ∙ ap (take m) (drop-drop o a xs)
+
+pub part-add : (xs : List ℕ) (at l k : ℕ) → part xs at l ++ part xs (at + l) k ≡ part xs at (l + k)
+unfolding part
+part-add xs at l k = ap (λ (r : List ℕ). take l (drop at xs) ++ take k r) (sym (drop-drop l at xs)) ∙ sym (take-add l k (drop at xs))
+
+-- a part of what is erased is erased
+pub blank-within : (xs : List ℕ) (at len o l : ℕ) → part xs at len ≡ blank len → o + l ≤ len → part xs (at + o) l ≡ blank l
+blank-within xs at len o l e h = sym (part-part xs at len o l h) ∙ ap (λ (y : List ℕ). part y o l) e ∙ part-blank len o l h
+
+-- lists whose first k pieces of s bytes are alike
+pub pieces : (s k : ℕ) (xs ys : List ℕ) → ((i : ℕ) → i < k → part xs (i * s) s ≡ part ys (i * s) s) → take (k * s) xs ≡ take (k * s) ys
+unfolding part
+pieces s zero xs ys h = rw (zero-mul s)
+pieces s (suc k) xs ys h =
+    let e : suc k * s ≡ k * s + s = omega arith in
+    rw (e, take-add (k * s) s xs, take-add (k * s) s ys)
+    (ap₂ (λ (a b : List ℕ). a ++ b) (pieces s k xs ys (λ i l. h i (omega arith))) (h k (omega arith)))
+
+-- ---- same tells whether two lists are equal
+
+pub same-refl : (xs : List ℕ) → same xs xs ≡ true
+unfolding same
+same-refl [] = refl
+same-refl (x ∷ xs) = rw (eq-eqb x x refl, same-refl xs)
+
+pub same-eq : (xs ys : List ℕ) → same xs ys ≡ true → xs ≡ ys
+unfolding same
+same-eq [] [] h = refl
+same-eq [] (y ∷ ys) h = absurd (let z : _≡_ {A = ℕ} 0 1 = cc in omega arith)
+same-eq (x ∷ xs) [] h = absurd (let z : _≡_ {A = ℕ} 0 1 = cc in omega arith)
+same-eq (x ∷ xs) (y ∷ ys) h = go (same-eq xs ys) (eqb x y) refl h
+  where
+    go : (same xs ys ≡ true → xs ≡ ys) → (b : Bool) → eqb x y ≡ b → (b && same xs ys) ≡ true → x ∷ xs ≡ y ∷ ys
+    go ih true e k = cc (eqb-true x y e, ih k)
+    go ih false e k = absurd (let z : _≡_ {A = ℕ} 0 1 = cc in omega arith)
 
 -- ---- for loops that go byte by byte
 

@@ -1,0 +1,5 @@
+pub mod All
+pub mod Cuts
+pub mod Windows
+pub mod Places
+pub mod Reading
