@@ -5,3 +5,5 @@ pub mod Operations
 pub mod Harm
 pub mod Small
 pub mod AreaLaws
+pub mod EraseLaws
+pub mod UnitLaws

@@ -1,10 +1,12 @@
 ghost use mathlib.Core.Path.{_≡_};
-ghost use mathlib.Core.Bool.{_||_};
-ghost use Prim.Native.Nat.{ℕ, _+_, _*_, _≤_, _<_};
-ghost use lib.Dec.{eqb};
-ghost use Rattle.spans.specs.Bytes.{part};
+ghost use Prim.Native.Nat.{_+_, _*_, _-_, _≤_, min};
+ghost use lib.Dec.{ltb};
+ghost use Rattle.spans.specs.Bytes.{part, put, blank};
+ghost use Rattle.spans.specs.Choice.{pick};
 ghost use Rattle.flash.specs.Geometry.{startOf, placeOf, unitAt, firstUnit};
 ghost use Rattle.flash.specs.Small.{Small};
+ghost use Rattle.flash.specs.Operations.{local, going, eraseIn, erased, writeAllIn};
+ghost use Rattle.flash.specs.UnitLaws.{blankRun};
 
 // The write unit's bytes, the sector's bytes, the sectors of a slot.
 pub struct Geometry {
@@ -67,4 +69,152 @@ pub fn first_unit(g: Geometry, i: Sector) -> Unit
     ensures { λ r. ⌜ r ≡ firstUnit g i ⌝ }
 {
     Unit(i.0 * (g.sector / g.unit))
+}
+
+// An erase of a sector, where the allowance and what came before let it come to pass.
+pub fn erase(g: Geometry, area: &mut [u8], i: Sector, run: Run) -> Run
+    requires { ⌜ Small g ⌝ }
+    requires { ⌜ i .0 ≤ 128 ⌝ }
+    ensures { λ r. ⌜ local (now (area .exit)) r ≡ eraseIn g i (local (now (area .entry)) run) ⌝ }
+{
+    let end = run.end;
+    match end {
+        End::Going => {
+            if run.left == 0 {
+                return Run {
+                    left: 0,
+                    end: End::Stopped,
+                };
+            }
+            let at = start_of(g, i);
+            spans::fill(area, at.0, g.sector);
+            Run {
+                left: run.left - 1,
+                end: End::Going,
+            }
+        }
+        End::Stopped => run,
+        End::Unerased => run,
+    }
+}
+
+fn is_erased(g: Geometry, area: &[u8], u: Unit) -> bool
+    requires { ⌜ Small g ⌝ }
+    requires { ⌜ u .0 ≤ 8388608 ⌝ }
+    ensures { λ r. ⌜ r ≡ erased g u (now (area .entry)) ⌝ }
+{
+    let at = place_of(g, u);
+    spans::all_blank(area, at.0, g.unit)
+}
+
+fn count_blank(g: Geometry, area: &[u8], u: Unit, n: usize) -> usize
+    requires { ⌜ Small g ⌝ }
+    requires { ⌜ u .0 + n ≤ 8388608 ⌝ }
+    ensures { λ r. ⌜ r ≡ blankRun g u n (now (area .entry)) ⌝ }
+{
+    let mut k = 0;
+    while k < n {
+        if is_erased(g, area, Unit(u.0 + k)) {
+            k += 1;
+        } else {
+            return k;
+        }
+    }
+    k
+}
+
+// How many of the n units from u on are erased, up to the first that is not. They all are but on a flash that nothing here leaves, and
+// then one fold over all their bytes tells.
+fn blank_units(g: Geometry, area: &[u8], u: Unit, n: usize) -> usize
+    requires { ⌜ Small g ⌝ }
+    requires { ⌜ u .0 + n ≤ 8388608 ⌝ }
+    ensures { λ r. ⌜ (r ≡ blankRun g u n (now (area .entry))) × (r ≤ n) ⌝ }
+{
+    let at = place_of(g, u);
+    let bytes = place_of(g, Unit(n));
+    if spans::all_blank(area, at.0, bytes.0) {
+        n
+    } else {
+        count_blank(g, area, u, n)
+    }
+}
+
+// How many units an allowance reaches.
+fn reach(left: u64, units: usize) -> usize
+    ensures { λ r. ⌜ r ≡ min left units ⌝ }
+{
+    if left < units as u64 {
+        left as usize
+    } else {
+        units
+    }
+}
+
+// Of the units that the allowance reaches, some were written: what is left, and how it stands.
+fn settled(left: u64, units: usize, reached: usize, written: usize) -> Run
+    requires { ⌜ written ≤ left ⌝ }
+    ensures { λ r. ⌜ (r .left ≡ left - written) × (r .end ≡ pick (ltb written reached) End.Unerased (pick (ltb left units) End.Stopped End.Going)) ⌝ }
+{
+    let rest = left - written as u64;
+    if written < reached {
+        return Run {
+            left: rest,
+            end: End::Unerased,
+        };
+    }
+    if left < units as u64 {
+        return Run {
+            left: rest,
+            end: End::Stopped,
+        };
+    }
+    Run {
+        left: rest,
+        end: End::Going,
+    }
+}
+
+// The units of src from from on go to the units of dst from to on, in rising order, as far as the allowance reaches and the units are
+// erased: one measure of the erased run and one copy, which comes to the same as unit after unit.
+fn copy_units(
+    g: Geometry,
+    src: &[u8],
+    from: Offset,
+    dst: &mut [u8],
+    to: Unit,
+    units: usize,
+    left: u64,
+) -> Run
+    requires { ⌜ Small g ⌝ }
+    requires { ⌜ to .0 + units ≤ 8388608 ⌝ }
+    ensures { λ r. ⌜ local (now (dst .exit)) r ≡ writeAllIn g to units (part (now (src .entry)) (from .0) (units * g .unit)) (local (now (dst .entry)) (going left)) ⌝ }
+{
+    let reached = reach(left, units);
+    let written = blank_units(g, dst, to, reached);
+    let at = place_of(g, to);
+    let bytes = place_of(g, Unit(written));
+    spans::copy(src, from.0, dst, at.0, bytes.0);
+    settled(left, units, reached, written)
+}
+
+// The same after whatever came before.
+pub fn write_units(
+    g: Geometry,
+    src: &[u8],
+    from: Offset,
+    dst: &mut [u8],
+    to: Unit,
+    units: usize,
+    run: Run,
+) -> Run
+    requires { ⌜ Small g ⌝ }
+    requires { ⌜ to .0 + units ≤ 8388608 ⌝ }
+    ensures { λ r. ⌜ local (now (dst .exit)) r ≡ writeAllIn g to units (part (now (src .entry)) (from .0) (units * g .unit)) (local (now (dst .entry)) run) ⌝ }
+{
+    let end = run.end;
+    match end {
+        End::Going => copy_units(g, src, from, dst, to, units, run.left),
+        End::Stopped => run,
+        End::Unerased => run,
+    }
 }

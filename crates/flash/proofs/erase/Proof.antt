@@ -1,0 +1,63 @@
+use mathlib.Core.Path.{sym}
+use Rattle.flash.specs.EraseLaws.{erase-late, erase-done, erase-stopped, erase-unerased}
+use borrow.Author.Needs.{needs}
+use Rattle.flash.proofs.erase.Statement.{statement}
+use Rattle.flash.proofs.erase.Tie as tie
+use Rattle.flash.proofs.erase.Reads as reads
+use Rattle.flash.proofs.erase.Lts as lts
+use Rattle.flash.proofs.start_of.Reads as start-of-reads
+use Rattle.spans.proofs.fill.Reads as fill-reads
+
+enum-told : tie.Need-enum-told
+enum-told c = search needs
+
+returns : tie.Need-returns
+returns c = sym (erase-late (c .before .before .before .before .before .args .g) (c .before .before .before .before .before .args .i) (c .before .before .before .before .before .args .area .now) (c .before .before .before .before .before .args .run) (c .before .before .enum-told .given .1) (c .if1 .taken))
+
+start-of-requires : tie.Need-start-of-requires
+start-of-requires c κs = search needs
+
+fill-requires : tie.Need-fill-requires
+fill-requires c κs = search needs
+
+sub-t13 : tie.Need-sub-t13
+sub-t13 c = search needs
+
+enum-told-2 : tie.Need-enum-told-2
+enum-told-2 c = search needs
+
+enum-told-3 : tie.Need-enum-told-3
+enum-told-3 c = search needs
+
+same-length : tie.Need-same-length
+same-length c = search needs
+
+returns-2 : tie.Need-returns-2
+returns-2 c =
+    cc (
+      erase-done (c .before .before .before .before .before .before .before .before .before .before .before .args .g) (c .before .before .before .before .before .before .before .before .before .before .before .args .i) (c .before .before .before .before .before .before .before .before .before .before .before .args .area .now) (c .before .before .before .before .before .before .before .before .before .before .before .args .run) (c .before .before .before .before .before .before .before .before .enum-told .given .1) (c .before .before .before .before .before .before .if1 .left),
+      c .before .before .before .before .before .start-of .ensures,
+      c .before .before .before .fill .ensures,
+    )
+
+returns-3 : tie.Need-returns-3
+returns-3 c = sym (erase-stopped (c .before .before .before .args .g) (c .before .before .before .args .i) (c .before .before .before .args .area .now) (c .before .before .before .args .run) (c .enum-told2 .given .1))
+
+returns-4 : tie.Need-returns-4
+returns-4 c = sym (erase-unerased (c .before .before .before .args .g) (c .before .before .before .args .i) (c .before .before .before .args .area .now) (c .before .before .before .args .run) (c .enum-told3 .given .1))
+
+pub erase-spec : {M : Type 1} → statement M
+erase-spec =
+    tie.close
+    (tie.spec
+    enum-told
+    returns
+    start-of-requires
+    fill-requires
+    sub-t13
+    enum-told-2
+    enum-told-3
+    same-length
+    returns-2
+    returns-3
+    returns-4)

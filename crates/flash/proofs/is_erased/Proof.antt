@@ -1,0 +1,26 @@
+use mathlib.Core.Path.{ap, _∙_}
+use Rattle.spans.specs.Bytes.{part, blank, same}
+use Rattle.flash.specs.declared.Offset.{Offset}
+use Rattle.flash.specs.Operations.{erased}
+use borrow.Author.Needs.{needs}
+use Rattle.flash.proofs.is_erased.Statement.{statement}
+use Rattle.flash.proofs.is_erased.Tie as tie
+use Rattle.flash.proofs.is_erased.Reads as reads
+use Rattle.flash.proofs.is_erased.Lts as lts
+use Rattle.flash.proofs.place_of.Reads as place-of-reads
+use Rattle.spans.proofs.all_blank.Reads as all-blank-reads
+
+place-of-requires : tie.Need-place-of-requires
+place-of-requires c κs = search needs
+
+all-blank-requires : tie.Need-all-blank-requires
+all-blank-requires c κs = search needs
+
+returns : tie.Need-returns
+unfolding erased
+returns c =
+    c .all-blank .ensures
+    ∙ ap (λ (o : Offset). same (part (c .before .before .before .args .area .now) (o .0) (c .before .before .before .args .g .unit)) (blank (c .before .before .before .args .g .unit))) (c .before .place-of .ensures)
+
+pub is-erased-spec : {M : Type 1} → statement M
+is-erased-spec = tie.close (tie.spec place-of-requires all-blank-requires returns)
