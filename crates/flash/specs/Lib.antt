@@ -4,6 +4,7 @@ pub mod Base
 pub mod Operations
 pub mod Harm
 pub mod Small
+pub mod Taken
 pub mod AreaLaws
 pub mod EraseLaws
 pub mod UnitLaws
