@@ -4,3 +4,4 @@ pub mod Base
 pub mod Operations
 pub mod Harm
 pub mod AreaLaws
+pub mod OperationLaws
