@@ -1,0 +1,43 @@
+use mathlib.Core.Path.{ap, _∙_}
+use native.Mathlib.Omega.{arith}
+use Rattle.flash.specs.declared.Unit.{Unit}
+use Rattle.flash.specs.Base.{build}
+use Rattle.flash.specs.Operations.{local, writeIn}
+use Rattle.trailer.specs.Trailer.{markBytes}
+use Rattle.carry.specs.InArea.{markIn, mark-unit}
+use borrow.Author.Needs.{needs}
+use Rattle.carry.proofs.trailers.write_mark.Statement.{statement}
+use Rattle.carry.proofs.trailers.write_mark.Tie as tie
+use Rattle.carry.proofs.trailers.write_mark.Reads as reads
+use Rattle.carry.proofs.trailers.write_mark.Lts as lts
+use Rattle.carry.proofs.trailers.unit_in.Reads as unit-in-reads
+use Rattle.flash.proofs.write_units.Reads as write-units-reads
+
+unit-in-requires : tie.Need-unit-in-requires
+unit-in-requires c κs = search needs
+
+slice-aggregate-write-units : tie.Need-slice-aggregate-write-units
+slice-aggregate-write-units c = search needs
+
+write-units-requires : tie.Need-write-units-requires
+write-units-requires c κs = search needs
+
+same-length : tie.Need-same-length
+same-length c = search needs
+
+returns : tie.Need-returns
+unfolding markIn
+returns c = 
+    c .before .before .write-units .ensures
+    ∙ mark-unit (c .before .before .before .before .before .before .before .args .g) (c .before .before .before .before .before .unit-in .result) (c .before .before .before .before .before .before .before .args .value) (local (c .before .before .before .before .before .before .before .args .area .now) (c .before .before .before .before .before .before .before .args .run)) (omega (arith, c .before .before .before .before .before .before .before .pre)) (omega (arith, c .before .before .before .before .before .before .before .pre))
+    ∙ ap (λ (u : Unit). writeIn (c .before .before .before .before .before .before .before .args .g) u (markBytes (build (c .before .before .before .before .before .before .before .args .g)) (c .before .before .before .before .before .before .before .args .value)) (local (c .before .before .before .before .before .before .before .args .area .now) (c .before .before .before .before .before .before .before .args .run))) (c .before .before .before .before .before .unit-in .ensures .0)
+
+pub write-mark-spec : {M : Type 1} → statement M
+write-mark-spec =
+    tie.close
+    (tie.spec
+    unit-in-requires
+    slice-aggregate-write-units
+    write-units-requires
+    same-length
+    returns)

@@ -1,0 +1,2 @@
+// Carrying out the lists of operations under an allowance.
+pub mod trailers;
