@@ -17,7 +17,7 @@ start-of-requires : tie.Need-start-of-requires
 start-of-requires c κs = search needs
 
 add-t5 : tie.Need-add-t5
-add-t5 c = 
+add-t5 c =
     let e : c .before .before .start-of .result .0 ≡ c .before .before .before .args .i .0 * c .before .before .before .args .g .sector = ap (λ (o : Offset). o .0) (c .before .before .start-of .ensures) in
     omega (arith, e, mul-le-mul {n₁ = c .before .before .before .args .i .0} {m₁ = c .before .before .before .args .g .sector} {n₂ = 127} {m₂ = 65536} (omega arith) (omega arith))
 
@@ -25,7 +25,7 @@ unit-at-requires : tie.Need-unit-at-requires
 unit-at-requires c κs = search needs
 
 returns : tie.Need-returns
-returns c = 
+returns c =
     let e : c .before .before .before .start-of .result .0 ≡ c .before .before .before .before .args .i .0 * c .before .before .before .before .args .g .sector = ap (λ (o : Offset). o .0) (c .before .before .before .start-of .ensures) in
     let r : c .unit-at .result ≡ unitAt (c .before .before .before .before .args .g) (after (startOf (c .before .before .before .before .args .g) (c .before .before .before .before .args .i)) (c .before .before .before .before .args .at)) =
     c .unit-at .ensures ∙ ap (λ (o : ℕ). unitAt (c .before .before .before .before .args .g) (byteAt (o + c .before .before .before .before .args .at .0))) e in

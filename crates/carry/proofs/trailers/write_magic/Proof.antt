@@ -27,7 +27,7 @@ magic-place-requires c κs = search needs
 
 unit-in-requires : tie.Need-unit-in-requires
 unfolding base
-unit-in-requires c κs = 
+unit-in-requires c κs =
     let e : c .magic-place .result .0 ≡ c .before .before .args .g .sector - 16 = ap (λ (o : Offset). o .0) (c .magic-place .ensures) in
     (c .before .before .pre .0, (c .before .before .pre .1, omega (arith, e, c .before .before .pre .0 .room)))
 
@@ -42,7 +42,7 @@ div-write-units c = search needs
 
 write-units-requires : tie.Need-write-units-requires
 unfolding base
-write-units-requires c κs = 
+write-units-requires c κs =
     let e : c .before .before .before .before .before .magic-place .result .0 ≡ c .before .before .before .before .before .before .before .args .g .sector - 16 = ap (λ (o : Offset). o .0) (c .before .before .before .before .before .magic-place .ensures) in
     (c .before .before .before .before .before .before .before .pre .0, omega (arith, e, c .before .before .before .before .unit-in .ensures .1, div-le-self 16 (c .before .before .before .before .before .before .before .args .g .unit), c .before .before .before .before .before .before .before .pre .0 .room))
 
@@ -51,7 +51,7 @@ same-length c = search needs
 
 returns : tie.Need-returns
 unfolding magicIn
-returns c = 
+returns c =
     let n : ℕ = 16 / c .before .before .before .before .before .before .before .before .before .before .args .g .unit in
     let l : Local = local (c .before .before .before .before .before .before .before .before .before .before .args .area .now) (c .before .before .before .before .before .before .before .before .before .before .args .run) in
     c .before .before .write-units .ensures

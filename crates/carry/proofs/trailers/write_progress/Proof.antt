@@ -29,7 +29,7 @@ sub-t7 c = search needs
 
 write-mark-requires : tie.Need-write-mark-requires
 unfolding base
-write-mark-requires c κs = 
+write-mark-requires c κs =
     let e : c .before .before .mark-place .result .0 ≡ c .before .before .before .before .args .g .sector - 32 - 3 * c .before .before .before .before .args .g .sectors * c .before .before .before .before .args .g .unit + c .before .before .before .before .args .k * c .before .before .before .before .args .g .unit = ap (λ (o : Offset). o .0) (c .before .before .mark-place .ensures) in
     let f = marks-fit (c .before .before .before .before .args .g) (c .before .before .before .before .args .k) (c .before .before .before .before .pre .0) (omega arith) in
     (c .before .before .before .before .pre .0, (omega arith, omega (arith, e, f .all, f .before, c .before .before .before .before .pre .0 .room)))
@@ -39,7 +39,7 @@ same-length c = search needs
 
 returns : tie.Need-returns
 unfolding base
-returns c = 
+returns c =
     c .before .before .write-mark .ensures
     ∙ ap (λ (o : Offset). markIn (c .before .before .before .before .before .before .before .args .g) (sectorNo (c .before .before .before .before .before .before .before .args .g .sectors - 1)) o (1 + c .before .before .before .before .before .before .before .args .k % 3) (local (c .before .before .before .before .before .before .before .args .slot0 .now) (c .before .before .before .before .before .before .before .args .run))) (c .before .before .before .before .before .mark-place .ensures)
 

@@ -1,0 +1,44 @@
+use mathlib.Core.Path.{ap, _∙_}
+use Rattle.flash.specs.Build.{Area, trailerSector}
+use Rattle.flash.specs.Base.{base, build}
+use Rattle.carry.specs.InArea.{magicIn, threeIn, lineFiveIn}
+use borrow.Author.Needs.{needs}
+use Rattle.carry.proofs.trailers.line_five.Statement.{statement}
+use Rattle.carry.proofs.trailers.line_five.Tie as tie
+use Rattle.carry.proofs.trailers.line_five.Reads as reads
+use Rattle.carry.proofs.trailers.line_five.Lts as lts
+use Rattle.carry.proofs.trailers.three_marks.Reads as three-marks-reads
+use Rattle.carry.proofs.trailers.write_magic.Reads as write-magic-reads
+use Rattle.carry.proofs.trailers.write_ok.Reads as write-ok-reads
+
+sub-last : tie.Need-sub-last
+sub-last c = search needs
+
+write-ok-requires : tie.Need-write-ok-requires
+write-ok-requires c κs = search needs
+
+three-marks-requires : tie.Need-three-marks-requires
+three-marks-requires c κs = search needs
+
+write-magic-requires : tie.Need-write-magic-requires
+write-magic-requires c κs = search needs
+
+same-length : tie.Need-same-length
+same-length c = search needs
+
+returns : tie.Need-returns
+unfolding lineFiveIn base
+returns c =
+    let i = trailerSector (build (c .before .before .before .before .before .before .before .before .before .before .before .before .before .before .args .g)) Area.slot0 in
+    c .before .before .write-magic .ensures ∙ ap (magicIn (c .before .before .before .before .before .before .before .before .before .before .before .before .before .before .args .g) i) (c .before .before .before .before .before .before .three-marks .ensures ∙ ap (threeIn (c .before .before .before .before .before .before .before .before .before .before .before .before .before .before .args .g) i) (c .before .before .before .before .before .before .before .before .before .before .write-ok .ensures))
+
+pub line-five-spec : {M : Type 1} → statement M
+line-five-spec =
+    tie.close
+    (tie.spec
+    sub-last
+    write-ok-requires
+    three-marks-requires
+    write-magic-requires
+    same-length
+    returns)

@@ -1,0 +1,32 @@
+use mathlib.Core.Path.{ap, _∙_}
+use Rattle.flash.specs.Build.{Area, trailerSector}
+use Rattle.flash.specs.Base.{base, build}
+use Rattle.carry.specs.InArea.{magicIn}
+use borrow.Author.Needs.{needs}
+use Rattle.carry.proofs.trailers.ok_and_magic.Statement.{statement}
+use Rattle.carry.proofs.trailers.ok_and_magic.Tie as tie
+use Rattle.carry.proofs.trailers.ok_and_magic.Reads as reads
+use Rattle.carry.proofs.trailers.ok_and_magic.Lts as lts
+use Rattle.carry.proofs.trailers.write_magic.Reads as write-magic-reads
+use Rattle.carry.proofs.trailers.write_ok.Reads as write-ok-reads
+
+sub-last : tie.Need-sub-last
+sub-last c = search needs
+
+write-ok-requires : tie.Need-write-ok-requires
+write-ok-requires c κs = search needs
+
+write-magic-requires : tie.Need-write-magic-requires
+write-magic-requires c κs = search needs
+
+same-length : tie.Need-same-length
+same-length c = search needs
+
+returns : tie.Need-returns
+unfolding base
+returns c =
+    c .before .before .write-magic .ensures ∙ ap (magicIn (c .before .before .before .before .before .before .before .before .before .before .args .g) (trailerSector (build (c .before .before .before .before .before .before .before .before .before .before .args .g)) Area.slot1)) (c .before .before .before .before .before .before .write-ok .ensures)
+
+pub ok-and-magic-spec : {M : Type 1} → statement M
+ok-and-magic-spec =
+    tie.close (tie.spec sub-last write-ok-requires write-magic-requires same-length returns)

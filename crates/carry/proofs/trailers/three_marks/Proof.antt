@@ -1,0 +1,41 @@
+use mathlib.Core.Path.{ap, _∙_}
+use Rattle.flash.specs.Build.{Area, trailerSector}
+use Rattle.flash.specs.Base.{base, build}
+use Rattle.trailer.specs.Trailer.{markAt}
+use Rattle.carry.specs.InArea.{markIn, threeIn}
+use borrow.Author.Needs.{needs}
+use Rattle.carry.proofs.trailers.three_marks.Statement.{statement}
+use Rattle.carry.proofs.trailers.three_marks.Tie as tie
+use Rattle.carry.proofs.trailers.three_marks.Reads as reads
+use Rattle.carry.proofs.trailers.three_marks.Lts as lts
+use Rattle.carry.proofs.trailers.write_progress.Reads as write-progress-reads
+
+write-progress-requires : tie.Need-write-progress-requires
+write-progress-requires c κs = search needs
+
+write-progress-requires-2 : tie.Need-write-progress-requires-2
+write-progress-requires-2 c κs = search needs
+
+write-progress-requires-3 : tie.Need-write-progress-requires-3
+write-progress-requires-3 c κs = search needs
+
+same-length : tie.Need-same-length
+same-length c = search needs
+
+returns : tie.Need-returns
+unfolding threeIn base
+returns c =
+    let i = trailerSector (build (c .before .before .before .before .before .before .before .before .before .before .before .before .before .args .g)) Area.slot0 in
+    c .before .before .write-progress3 .ensures
+    ∙ ap (markIn (c .before .before .before .before .before .before .before .before .before .before .before .before .before .args .g) i (markAt (build (c .before .before .before .before .before .before .before .before .before .before .before .before .before .args .g)) 2) 3)
+    (c .before .before .before .before .before .before .write-progress2 .ensures ∙ ap (markIn (c .before .before .before .before .before .before .before .before .before .before .before .before .before .args .g) i (markAt (build (c .before .before .before .before .before .before .before .before .before .before .before .before .before .args .g)) 1) 2) (c .before .before .before .before .before .before .before .before .before .before .write-progress .ensures))
+
+pub three-marks-spec : {M : Type 1} → statement M
+three-marks-spec =
+    tie.close
+    (tie.spec
+    write-progress-requires
+    write-progress-requires-2
+    write-progress-requires-3
+    same-length
+    returns)
