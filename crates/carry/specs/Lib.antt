@@ -1,3 +1,4 @@
 pub mod Steps
 pub mod InArea
 pub mod Moves
+pub mod Areas

@@ -1,2 +1,3 @@
 // Carrying out the lists of operations under an allowance.
+pub mod areas;
 pub mod trailers;

@@ -1,0 +1,68 @@
+use mathlib.Core.Path.{_≡_, ap, ap₂, _∙_}
+use Prim.Native.Nat.{ℕ, _*_, _/_, _≤_}
+use native.Mathlib.Nat.{mul-le-mul, div-le-self}
+use native.Mathlib.Omega.{arith}
+use Rattle.spans.specs.Bytes.{part}
+use Rattle.flash.specs.declared.Offset.{Offset}
+use Rattle.flash.specs.declared.Unit.{Unit}
+use Rattle.flash.specs.Geometry.{placeOf, firstUnit}
+use Rattle.flash.specs.Operations.{local, writeAllIn}
+use Rattle.carry.specs.Steps.{moveIn}
+use borrow.Author.Needs.{needs}
+use Rattle.carry.proofs.areas.move_sector.Statement.{statement}
+use Rattle.carry.proofs.areas.move_sector.Tie as tie
+use Rattle.carry.proofs.areas.move_sector.Reads as reads
+use Rattle.carry.proofs.areas.move_sector.Lts as lts
+use Rattle.flash.proofs.erase.Reads as erase-reads
+use Rattle.flash.proofs.first_unit.Reads as first-unit-reads
+use Rattle.flash.proofs.place_of.Reads as place-of-reads
+use Rattle.flash.proofs.write_units.Reads as write-units-reads
+
+erase-requires : tie.Need-erase-requires
+erase-requires c κs = search needs
+
+first-unit-requires : tie.Need-first-unit-requires
+first-unit-requires c κs = search needs
+
+place-of-requires : tie.Need-place-of-requires
+place-of-requires c κs =
+    let e : c .first-unit .result .0 ≡ c .before .before .before .before .before .before .before .args .from .0 * (c .before .before .before .before .before .before .before .args .g .sector / c .before .before .before .before .before .before .before .args .g .unit) = ap (λ (u : Unit). u .0) (c .first-unit .ensures) in
+    let n : c .before .before .before .before .before .before .before .args .g .sector / c .before .before .before .before .before .before .before .args .g .unit ≤ 65536 = omega (arith, div-le-self (c .before .before .before .before .before .before .before .args .g .sector) (c .before .before .before .before .before .before .before .args .g .unit)) in
+    (c .before .before .before .before .before .before .before .pre .0, omega (arith, e, mul-le-mul {n₁ = c .before .before .before .before .before .before .before .args .from .0} {n₂ = 127} {m₂ = 65536} (omega arith) n))
+
+first-unit-requires-2 : tie.Need-first-unit-requires-2
+first-unit-requires-2 c κs = search needs
+
+div-write-units : tie.Need-div-write-units
+div-write-units c = search needs
+
+write-units-requires : tie.Need-write-units-requires
+write-units-requires c κs =
+    let e : c .before .before .first-unit2 .result .0 ≡ c .before .before .before .before .before .before .before .before .before .before .before .args .to .0 * (c .before .before .before .before .before .before .before .before .before .before .before .args .g .sector / c .before .before .before .before .before .before .before .before .before .before .before .args .g .unit) = ap (λ (u : Unit). u .0) (c .before .before .first-unit2 .ensures) in
+    let n : c .before .before .before .before .before .before .before .before .before .before .before .args .g .sector / c .before .before .before .before .before .before .before .before .before .before .before .args .g .unit ≤ 65536 = omega (arith, div-le-self (c .before .before .before .before .before .before .before .before .before .before .before .args .g .sector) (c .before .before .before .before .before .before .before .before .before .before .before .args .g .unit)) in
+    (c .before .before .before .before .before .before .before .before .before .before .before .pre .0, omega (arith, e, n, mul-le-mul {n₁ = c .before .before .before .before .before .before .before .before .before .before .before .args .to .0} {n₂ = 127} {m₂ = 65536} (omega arith) n))
+
+same-length : tie.Need-same-length
+same-length c = search needs
+
+returns : tie.Need-returns
+unfolding moveIn
+returns c =
+    let n : ℕ = c .before .before .before .before .before .before .before .before .before .before .before .before .before .before .args .g .sector / c .before .before .before .before .before .before .before .before .before .before .before .before .before .before .args .g .unit in
+    c .before .before .write-units .ensures
+    ∙ ap₂ (λ (u : Unit) (o : Offset). writeAllIn (c .before .before .before .before .before .before .before .before .before .before .before .before .before .before .args .g) u n (part (c .before .before .before .before .before .before .before .before .before .before .before .before .before .before .args .src .now) (o .0) (n * c .before .before .before .before .before .before .before .before .before .before .before .before .before .before .args .g .unit)) (local (c .before .before .before .before .before .before .before .before .before .before .erase .last .1 .0) (c .before .before .before .before .before .before .before .before .before .before .erase .result)))
+    (c .before .before .before .before .before .first-unit2 .ensures) (c .before .before .before .before .before .before .place-of .ensures ∙ ap (placeOf (c .before .before .before .before .before .before .before .before .before .before .before .before .before .before .args .g)) (c .before .before .before .before .before .before .before .first-unit .ensures))
+    ∙ ap (writeAllIn (c .before .before .before .before .before .before .before .before .before .before .before .before .before .before .args .g) (firstUnit (c .before .before .before .before .before .before .before .before .before .before .before .before .before .before .args .g) (c .before .before .before .before .before .before .before .before .before .before .before .before .before .before .args .to)) n (part (c .before .before .before .before .before .before .before .before .before .before .before .before .before .before .args .src .now) (placeOf (c .before .before .before .before .before .before .before .before .before .before .before .before .before .before .args .g) (firstUnit (c .before .before .before .before .before .before .before .before .before .before .before .before .before .before .args .g) (c .before .before .before .before .before .before .before .before .before .before .before .before .before .before .args .from)) .0) (n * c .before .before .before .before .before .before .before .before .before .before .before .before .before .before .args .g .unit))) (c .before .before .before .before .before .before .before .before .before .before .erase .ensures)
+
+pub move-sector-spec : {M : Type 1} → statement M
+move-sector-spec =
+    tie.close
+    (tie.spec
+    erase-requires
+    first-unit-requires
+    place-of-requires
+    first-unit-requires-2
+    div-write-units
+    write-units-requires
+    same-length
+    returns)

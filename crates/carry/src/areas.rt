@@ -1,0 +1,94 @@
+// Lists of operations over the three areas.
+ghost use mathlib.Core.Path.{_≡_};
+ghost use mathlib.Core.List.{List};
+ghost use Prim.Native.Nat.{ℕ, _+_, _*_, _-_, _/_, _%_, _≤_, _<_};
+ghost use lib.ListN.{drop};
+ghost use Rattle.flash.specs.Build.{Area};
+ghost use Rattle.flash.specs.Base.{build, allMoves};
+ghost use Rattle.flash.specs.Small.{Small};
+ghost use Rattle.flash.specs.Operations.{local, step, steps};
+ghost use Rattle.trailer.specs.Trailer.{doneAt};
+ghost use Rattle.plan.specs.Lists.{mark, progress, settle, moveOps, dataOps, exchange, clearOut};
+ghost use Rattle.carry.specs.Steps.{moveIn};
+ghost use Rattle.carry.specs.Moves.{moveOf};
+ghost use Rattle.carry.specs.Areas.{state};
+use crate::trailers::erase_sectors;
+use crate::trailers::line_five;
+use crate::trailers::lines_one_two;
+use crate::trailers::write_mark;
+use crate::trailers::write_ok;
+use crate::trailers::write_progress;
+use flash::Geometry;
+use flash::Run;
+use flash::Sector;
+
+// Lines 3 to 6 of the trailer exchange.
+pub fn lines_three_to_six(
+    g: Geometry,
+    slot0: &mut [u8],
+    slot1: &mut [u8],
+    scratch: &mut [u8],
+    lasting: bool,
+    run: Run,
+) -> Run
+    requires { ⌜ Small g ⌝ }
+    ensures { λ r. ⌜ state (now (slot0 .exit)) (now (slot1 .exit)) (now (scratch .exit)) r ≡ steps (build g) (settle (build g) lasting) (state (now (slot0 .entry)) (now (slot1 .entry)) (now (scratch .entry)) run) ⌝ }
+{
+    let last = g.sectors - 1;
+    let three = flash::erase(g, slot1, Sector(last), run);
+    let four = flash::erase(g, slot0, Sector(last), three);
+    let five = line_five(g, slot0, lasting, four);
+    flash::erase(g, scratch, Sector(1), five)
+}
+
+// A sector's bytes go to an erased sector of another area.
+fn move_sector(g: Geometry, src: &[u8], from: Sector, dst: &mut [u8], to: Sector, run: Run) -> Run
+    requires { ⌜ Small g ⌝ }
+    requires { ⌜ (from .0 ≤ 127) × (to .0 ≤ 127) ⌝ }
+    ensures { λ r. ⌜ local (now (dst .exit)) r ≡ moveIn g (now (src .entry)) from to (local (now (dst .entry)) run) ⌝ }
+{
+    let erased = flash::erase(g, dst, to, run);
+    let at = flash::place_of(g, flash::first_unit(g, from));
+    let u = flash::first_unit(g, to);
+    flash::write_units(g, src, at, dst, u, g.sector / g.unit, erased)
+}
+
+// The move whose mark has number k, without its mark.
+fn one_move(
+    g: Geometry,
+    k: usize,
+    slot0: &mut [u8],
+    slot1: &mut [u8],
+    scratch: &mut [u8],
+    run: Run,
+) -> Run
+    requires { ⌜ Small g ⌝ }
+    requires { ⌜ k < 3 * g .sectors ⌝ }
+    ensures { λ r. ⌜ state (now (slot0 .exit)) (now (slot1 .exit)) (now (scratch .exit)) r ≡ steps (build g) (moveOps (build g) (moveOf (g .sectors - 1 - k / 3) (k % 3))) (state (now (slot0 .entry)) (now (slot1 .entry)) (now (scratch .entry)) run) ⌝ }
+{
+    let i = g.sectors - 1 - k / 3;
+    let j = k % 3;
+    if j == 0 {
+        return move_sector(g, slot1, Sector(i), scratch, Sector(0), run);
+    }
+    if j == 1 {
+        return move_sector(g, slot0, Sector(i), slot1, Sector(i), run);
+    }
+    move_sector(g, scratch, Sector(0), slot0, Sector(i), run)
+}
+
+fn marked_move(
+    g: Geometry,
+    k: usize,
+    slot0: &mut [u8],
+    slot1: &mut [u8],
+    scratch: &mut [u8],
+    run: Run,
+) -> Run
+    requires { ⌜ Small g ⌝ }
+    requires { ⌜ k < 3 * g .sectors ⌝ }
+    ensures { λ r. ⌜ state (now (slot0 .exit)) (now (slot1 .exit)) (now (scratch .exit)) r ≡ step (build g) (progress (build g) k) (steps (build g) (moveOps (build g) (moveOf (g .sectors - 1 - k / 3) (k % 3))) (state (now (slot0 .entry)) (now (slot1 .entry)) (now (scratch .entry)) run)) ⌝ }
+{
+    let moved = one_move(g, k, slot0, slot1, scratch, run);
+    write_progress(g, slot0, k, moved)
+}
