@@ -26,6 +26,10 @@ pub record Geo (g : Build) : Type 0 where
   pub room : 3 * g .sectors * g .unit + 32 ≤ g .sector
   pub two : 2 ≤ g .sectors
 
+-- the units of a sector
+abbrev pub per : Build → ℕ
+per g = unitsPerSector (geometry g)
+
 -- an area's trailer sector is there
 abbrev pub Sized : Build → Area → Flash → Type 0
 Sized g a f = length (trailer g a f) ≡ g .sector
@@ -65,7 +69,7 @@ module _ {g : Build} (geo : Geo g) where
       → trailerUnit g a at .0 * g .unit ≡ dataSectors g a * g .sector + at .0
   unit-back a at h = div-mul-cancel (g .unit) (dvd-add (g .unit) (dvd-mul-left-of-dvd (g .unit) (geo .whole) (dataSectors g a)) h)
 
-  pub per-back : unitsPerSector (geometry g) * g .unit ≡ g .sector
+  pub per-back : per g * g .unit ≡ g .sector
   per-back = div-mul-cancel (g .unit) (geo .whole)
 
   pub unit-small : g .unit ≤ 8
@@ -101,9 +105,8 @@ module _ {g : Build} (geo : Geo g) where
       → {bs : List ℕ} {f f' : Flash} → Torn g (write a u bs) f f' → f' ≡ f
   write-whole a o u h (as-before e) = e
   write-whole a o u h (half-written bs q l e) =
-      let per : ℕ = unitsPerSector (geometry g) in
-      let k : dataSectors g a * per * g .unit ≤ u .0 * g .unit = omega (arith, ap (λ (x : ℕ). dataSectors g a * x) per-back) in
-      let m : dataSectors g a * per ≤ u .0 = le-of-mul-le-mul-right k (geo .positive) in
+      let k : dataSectors g a * per g * g .unit ≤ u .0 * g .unit = omega (arith, ap (λ (x : ℕ). dataSectors g a * x) per-back) in
+      let m : dataSectors g a * per g ≤ u .0 = le-of-mul-le-mul-right k (geo .positive) in
       absurd (omega arith)
 
   pub mark-whole : (a : Area) (at : Offset) (v : ℕ) → g .unit ∣ at .0 → {f f' : Flash} → Torn g (mark g a at v) f f' → f' ≡ f

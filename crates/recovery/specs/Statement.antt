@@ -1,0 +1,45 @@
+-- What demand 3 speaks of: power failures during an exchange, exchanges that are due, and builds for which all of it is proved.
+use mathlib.Core.Path.{_≡_}
+use mathlib.Core.List.{List}
+use mathlib.Core.Bool.{Bool, true, false, _&&_}
+use Prim.Native.Nat.{ℕ, _≤_, _<_, _+_, _*_}
+use lib.ListN.{length}
+use lib.Dec.{eqb}
+use Rattle.flash.specs.Build.{Build, Move, Flash, sameArea, dataSectors, valid}
+use Rattle.flash.specs.Operations.{Op}
+use Rattle.flash.specs.Harm.{Cut}
+use Rattle.plan.specs.declared.Course.{Course}
+use Rattle.plan.specs.declared.Course.the-variants.{Test, Permanent, Revert}
+use Rattle.plan.specs.Decision.{decide}
+use Rattle.recovery.specs.All.{All}
+
+-- From f, any number of power-ups, each cut before the last operation of its list was done, with nothing else writing the flash
+-- between. `plan` is the list that a power-up would carry out. (A power-up that its allowance stops is one, too: `stopped-cut`.)
+pub data Failures (g : Build) (plan : Flash → List Op) (f : Flash) : Flash → Type 0 where
+  never : Failures g plan f f
+  again : {f₁ f₂ : Flash} → Failures g plan f f₁ → Cut g (plan f₁) f₁ f₂ → Failures g plan f f₂
+
+-- the courses that are exchanges, and "p being 1 for permanent and revert and 0 for test"
+pub data Exchange : Course → Bool → Type 0 where
+  by-test : Exchange Test false
+  by-permanent : Exchange Permanent true
+  by-revert : Exchange Revert true
+
+-- An exchange is due under C, and its image is accepted. (Scratch's magic is then not Good, or A would have decided: `quiet`.)
+pub record Due (check : List ℕ → Bool) (g : Build) (f : Flash) (course : Course) (p : Bool) : Type 0 where
+  pub fits : valid g f ≡ true
+  pub which : Exchange course p
+  pub decided : decide check g f ≡ course
+
+-- a move between two different data sectors
+pub record Proper (g : Build) (m : Move) : Type 0 where
+  pub reads : m .from-sector .0 < dataSectors g (m .from)
+  pub writes : m .to-sector .0 < dataSectors g (m .to)
+  pub apart : (sameArea (m .to) (m .from) && eqb (m .to-sector .0) (m .from-sector .0)) ≡ false
+
+-- What the proof asks of a build, and `base` has: a mark of each value differs from an erased one, the marks find place, and the
+-- moves are proper.
+pub record Sound (g : Build) : Type 0 where
+  pub small : (k : ℕ) → g .value k < 255
+  pub places : 3 + length (g .moves) ≤ 3 * g .sectors
+  pub proper : All (Proper g) (g .moves)
