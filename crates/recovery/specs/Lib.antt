@@ -6,3 +6,5 @@ pub mod Reading
 pub mod Statement
 pub mod Validity
 pub mod Count
+pub mod Hiding
+pub mod Begin
