@@ -8,3 +8,5 @@ pub mod Validity
 pub mod Count
 pub mod Hiding
 pub mod Begin
+pub mod Settling
+pub mod Moving
