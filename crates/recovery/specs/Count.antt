@@ -23,7 +23,7 @@ unfolding writes
 length-writes g a u zero bs = refl
 length-writes g a u (suc k) bs = ap suc (length-writes g a (nextUnit u) k (drop (g .unit) bs))
 
-length-copies : (a : Area) (v : Unit) (b : Area) (u : Unit) (k : ℕ) → length (copies a v b u k) ≡ k
+pub length-copies : (a : Area) (v : Unit) (b : Area) (u : Unit) (k : ℕ) → length (copies a v b u k) ≡ k
 unfolding copies
 length-copies a v b u zero = refl
 length-copies a v b u (suc k) = ap suc (length-copies a (nextUnit v) b (nextUnit u) k)

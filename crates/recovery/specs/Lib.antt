@@ -10,3 +10,5 @@ pub mod Hiding
 pub mod Begin
 pub mod Settling
 pub mod Moving
+pub mod Sectors
+pub mod MoveRun

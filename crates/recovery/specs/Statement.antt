@@ -5,7 +5,10 @@ use mathlib.Core.Bool.{Bool, true, false, _&&_}
 use Prim.Native.Nat.{ℕ, _≤_, _<_, _+_, _*_}
 use lib.ListN.{length}
 use lib.Dec.{eqb}
-use Rattle.flash.specs.Build.{Build, Move, Flash, sameArea, dataSectors, valid}
+use Rattle.spans.specs.Bytes.{part}
+use Rattle.flash.specs.declared.Sector.{Sector}
+use Rattle.flash.specs.Geometry.{startOf}
+use Rattle.flash.specs.Build.{Area, slot0, slot1, Build, geometry, Move, Flash, area, sameArea, dataSectors, valid}
 use Rattle.flash.specs.Operations.{Op}
 use Rattle.flash.specs.Harm.{Cut}
 use Rattle.plan.specs.declared.Course.{Course}
@@ -30,6 +33,17 @@ pub record Due (check : List ℕ → Bool) (g : Build) (f : Flash) (course : Cou
   pub fits : valid g f ≡ true
   pub which : Exchange course p
   pub decided : decide check g f ≡ course
+
+-- the bytes of a sector
+unfoldable pub sectorOf : Build → Flash → Area → Sector → List ℕ
+sectorOf g f a i = part (area a f) (startOf (geometry g) i .0) (g .sector)
+
+-- "the data sectors of the two slots have changed places whole"
+pub record Swapped (g : Build) (f f' : Flash) : Type 0 where
+  pub to-slot0 : (i : Sector) → i .0 < dataSectors g slot0 → sectorOf g f' slot0 i ≡ sectorOf g f slot1 i
+  pub to-slot1 : (i : Sector) → i .0 < dataSectors g slot1 → sectorOf g f' slot1 i ≡ sectorOf g f slot0 i
+
+-- ---- builds
 
 -- a move between two different data sectors
 pub record Proper (g : Build) (m : Move) : Type 0 where
