@@ -12,3 +12,6 @@ pub mod Settling
 pub mod Moving
 pub mod Sectors
 pub mod MoveRun
+pub mod Chunks
+pub mod Stages
+pub mod Follows

@@ -1,0 +1,86 @@
+-- Lists of operations that can be cut anywhere and taken up again: proved once, for any decision and any chunks.
+use mathlib.Core.Path.{_≡_, refl, sym, ap, _∙_, subst}
+use mathlib.Core.Logic.{_⊎_, inl, inr}
+use mathlib.Core.List.{List, [], _∷_, _++_}
+use Rattle.flash.specs.Build.{Build, Flash}
+use Rattle.flash.specs.Operations.{Op, runAll}
+use Rattle.flash.specs.Harm.{Cut}
+use Rattle.recovery.specs.Cuts.{runAll-append, cut-append, cut-nil}
+use Rattle.recovery.specs.Statement.{Failures, never, again}
+
+-- A chunk can be begun again wherever it is cut. `Like f clean`: f is what a cut in the chunk, begun at clean, may leave.
+pub record Chunk (g : Build) : Type 1 where
+  pub ops : List Op
+  pub Like : Flash → Flash → Type 0
+  pub stays : (f clean f' : Flash) → Like f clean → Cut g ops f f' → Like f' clean
+  pub works : (f clean : Flash) → Like f clean → runAll g ops f ≡ runAll g ops clean
+
+unfoldable pub allOps : {g : Build} → List (Chunk g) → List Op
+allOps [] = []
+allOps (c ∷ cs) = c .ops ++ allOps cs
+
+-- Inv holds throughout because no operation, done or torn, can break it; Holds is what is wanted of each flash on the way.
+module _ {g : Build} (plan : Flash → List Op) (Inv Holds : Flash → Type 0) (keeps : (ops : List Op) (f f' : Flash) → Cut g ops f f' → Inv f → Inv f') where
+  -- from a clean flash the plan is all the chunks, from what a cut in the first leaves too; and so for the rest, once the first is done
+  pub data Good : List (Chunk g) → Flash → Type 1 where
+    over : {f : Flash} → Good [] f
+    first : {c : Chunk g} {cs : List (Chunk g)} {clean : Flash} → c .Like clean clean
+        → ((f : Flash) → c .Like f clean → Inv f → (plan f ≡ allOps (c ∷ cs)) × Holds f)
+        → Good cs (runAll g (c .ops) clean) → Good (c ∷ cs) clean
+
+  record Stage (end f : Flash) : Type 1 where
+    chunk : Chunk g
+    rest : List (Chunk g)
+    clean : Flash
+    good : Good (chunk ∷ rest) clean
+    like : chunk .Like f clean
+    inv : Inv f
+    ends : runAll g (allOps (chunk ∷ rest)) clean ≡ end
+
+  begins : {c : Chunk g} {cs : List (Chunk g)} {f : Flash} → Good (c ∷ cs) f → c .Like f f
+  begins (first l p q) = l
+
+  plans : {c : Chunk g} {cs : List (Chunk g)} {clean : Flash} → Good (c ∷ cs) clean → (f : Flash) → c .Like f clean → Inv f → (plan f ≡ allOps (c ∷ cs)) × Holds f
+  plans (first l p q) = p
+
+  later-on : {c : Chunk g} {cs : List (Chunk g)} {clean : Flash} → Good (c ∷ cs) clean → Good cs (runAll g (c .ops) clean)
+  later-on (first l p q) = q
+
+  cut-chunks : (end : Flash) (cs : List (Chunk g)) (c : Chunk g) (clean f f' : Flash) → Good (c ∷ cs) clean → c .Like f clean → Inv f'
+      → runAll g (allOps (c ∷ cs)) clean ≡ end → Cut g (allOps (c ∷ cs)) f f' → Stage end f'
+  unfolding allOps
+  cut-chunks end [] c clean f f' good like inv e k = go (cut-append (c .ops) [] k)
+    where
+      go : Cut g (c .ops) f f' ⊎ Cut g [] (runAll g (c .ops) f) f' → Stage end f'
+      go (inl k) = record { chunk = c; rest = []; clean = clean; good = good; like = c .stays f clean f' like k; inv = inv; ends = e }
+      go (inr k) = absurd (cut-nil k)
+  cut-chunks end (d ∷ cs) c clean f f' good like inv e k = go (cut-chunks end cs d (runAll g (c .ops) clean)) (cut-append (c .ops) (allOps (d ∷ cs)) k)
+    where
+      go : ((f f' : Flash) → Good (d ∷ cs) (runAll g (c .ops) clean) → d .Like f (runAll g (c .ops) clean) → Inv f'
+          → runAll g (allOps (d ∷ cs)) (runAll g (c .ops) clean) ≡ end → Cut g (allOps (d ∷ cs)) f f' → Stage end f')
+          → Cut g (c .ops) f f' ⊎ Cut g (allOps (d ∷ cs)) (runAll g (c .ops) f) f' → Stage end f'
+      go ih (inl k) = record { chunk = c; rest = d ∷ cs; clean = clean; good = good; like = c .stays f clean f' like k; inv = inv; ends = e }
+      go ih (inr k) = ih (runAll g (c .ops) clean) f' (later-on good) (begins (later-on good)) inv
+          (sym (runAll-append g (c .ops) (allOps (d ∷ cs)) clean) ∙ e)
+          (subst (λ (x : Flash). Cut g (allOps (d ∷ cs)) x f') (c .works f clean like) k)
+
+  module _ {c : Chunk g} {cs : List (Chunk g)} {f₀ : Flash} (good : Good (c ∷ cs) f₀) (inv : Inv f₀) where
+    stage : {f : Flash} → Failures g plan f₀ f → Stage (runAll g (allOps (c ∷ cs)) f₀) f
+    stage never = record { chunk = c; rest = cs; clean = f₀; good = good; like = begins good; inv = inv; ends = refl }
+    stage (again {f₁} {f₂} fs k) =
+        let s : Stage (runAll g (allOps (c ∷ cs)) f₀) f₁ = stage fs in
+        cut-chunks (runAll g (allOps (c ∷ cs)) f₀) (s .rest) (s .chunk) (s .clean) f₁ f₂ (s .good) (s .like) (keeps (plan f₁) f₁ f₂ k (s .inv)) (s .ends)
+        (subst (λ (x : List Op). Cut g x f₁ f₂) (plans (s .good) f₁ (s .like) (s .inv) .0) k)
+
+    -- after any failures the plan comes to the same end, and what is wanted holds
+    pub taken-up : {f : Flash} → Failures g plan f₀ f → (runAll g (plan f) f ≡ runAll g (allOps (c ∷ cs)) f₀) × Holds f
+    unfolding allOps
+    taken-up {f} fs =
+        let s : Stage (runAll g (allOps (c ∷ cs)) f₀) f = stage fs in
+        let h : (plan f ≡ allOps (s .chunk ∷ s .rest)) × Holds f = plans (s .good) f (s .like) (s .inv) in (
+          ap (λ (x : List Op). runAll g x f) (h .0)
+              ∙ runAll-append g (s .chunk .ops) (allOps (s .rest)) f
+              ∙ ap (runAll g (allOps (s .rest))) (s .chunk .works f (s .clean) (s .like))
+              ∙ sym (runAll-append g (s .chunk .ops) (allOps (s .rest)) (s .clean)) ∙ s .ends,
+          h .1,
+        )
