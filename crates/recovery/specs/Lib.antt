@@ -15,3 +15,5 @@ pub mod MoveRun
 pub mod Chunks
 pub mod Stages
 pub mod Follows
+pub mod Fresh
+pub mod Unerased
