@@ -8,3 +8,4 @@ pub mod Taken
 pub mod AreaLaws
 pub mod EraseLaws
 pub mod UnitLaws
+pub mod OperationLaws

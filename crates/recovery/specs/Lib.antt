@@ -17,3 +17,4 @@ pub mod Stages
 pub mod Follows
 pub mod Fresh
 pub mod Unerased
+pub mod Bridge
