@@ -18,3 +18,6 @@ pub mod Follows
 pub mod Fresh
 pub mod Unerased
 pub mod Bridge
+pub mod NeverLost
+pub mod BaseMoves
+pub mod Demand3
