@@ -21,3 +21,4 @@ pub mod Bridge
 pub mod NeverLost
 pub mod BaseMoves
 pub mod Demand3
+pub mod Changes

@@ -1,1 +1,2 @@
 pub mod Trailer
+pub mod MarkOrder
