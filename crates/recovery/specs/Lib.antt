@@ -22,3 +22,5 @@ pub mod NeverLost
 pub mod BaseMoves
 pub mod Demand3
 pub mod Changes
+pub mod Damage
+pub mod Edges

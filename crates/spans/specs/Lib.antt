@@ -3,3 +3,4 @@ pub mod Choice
 pub mod Laws
 pub mod CutOff
 pub mod Folds
+pub mod Table
