@@ -60,9 +60,9 @@ examples =
     row (after 160 (marked false)) (exchanged false) ∷ row (after 162 (marked true)) (exchanged true)
     -- stopped in lines 1 and 2, and in lines 3 to 6
     ∷ row (stopped 17 (marked true)) (exchanged true) ∷ row (stopped 30 (marked true)) (exchanged true)
-    -- in each of the three moves
-    ∷ row (stopped 60 (marked false)) (exchanged false) ∷ row (stopped 100 (marked false)) (exchanged false)
-    ∷ row (stopped 140 (marked false)) (exchanged false)
+    -- in each of the three moves, with one unit copied
+    ∷ row (stopped 41 (marked false)) (exchanged false) ∷ row (stopped 81 (marked false)) (exchanged false)
+    ∷ row (stopped 121 (marked false)) (exchanged false)
     -- before copy done
     ∷ row (stopped 159 (marked false)) (exchanged false) ∷ []
 
