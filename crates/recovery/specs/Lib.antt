@@ -24,3 +24,4 @@ pub mod Demand3
 pub mod Changes
 pub mod Damage
 pub mod Edges
+pub mod Witness
