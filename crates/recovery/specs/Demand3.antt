@@ -50,7 +50,7 @@ pub demand-3 : (check : List ℕ → Bool) (w s n : ℕ) {f f' : Flash} {course 
     → Due check (base w s n) f course p → Failures (base w s n) (inForce check (base w s n)) f f'
     → (b : ℕ) → 3 * (n - 1) * (s / w + 2) + 8 + 2 * one-if p + 32 / w ≤ b
     → AsNeverCut check (base w s n) p b f f'
-        × Swapped (base w s n) f (steps (base w s n) (inForce check (base w s n) f') (start b f') .flash)
+    × Swapped (base w s n) f (steps (base w s n) (inForce check (base w s n) f') (start b f') .flash)
 unfolding base
 demand-3 check w s n {f} {p = p} due fs b l =
     let v : Valid (base w s n) f = of-valid (base w s n) f (due .fits) in

@@ -68,8 +68,8 @@ module _ {g : Build} (geo : Geo g) where
   -- A move that is stopped: the target is erased, and the units that the allowance reached are copied, all at once.
   pub run-move : (m : Move) → Proper g m → (f : Flash) → Sized g (m .from) f → (n : ℕ)
       → run g (suc n) (moveOps g m) f
-          ≡ store (m .to) (m .to-sector .0 * g .sector)
-              (part (area (m .from) f) (m .from-sector .0 * g .sector) (min n (per g) * g .unit)) (wipe g (m .to) (m .to-sector) f)
+      ≡ store (m .to) (m .to-sector .0 * g .sector)
+      (part (area (m .from) f) (m .from-sector .0 * g .sector) (min n (per g) * g .unit)) (wipe g (m .to) (m .to-sector) f)
   unfolding moveOps run apply
   run-move m ok f z n =
       let s : ℕ = g .sector in

@@ -71,7 +71,7 @@ module _ {g : Build} (geo : Geo g) where
   -- the magic written behind c marks
   marked-magic : {c : ℕ} (f : Flash) → c ≤ 3 * g .sectors → Marked g c (trailer g slot0 f)
       → Marked g c (trailer g slot0 (runAll g (magicOps g slot0) f))
-          × (part (trailer g slot0 (runAll g (magicOps g slot0) f)) (magicAt g .0) 16 ≡ magicBytes)
+      × (part (trailer g slot0 (runAll g (magicOps g slot0) f)) (magicAt g .0) 16 ≡ magicBytes)
   unfolding magicBytes
   marked-magic f h m = rw (trailer-magic geo slot0 f) (
     marked-far geo (magicAt g .0) magicBytes h (omega arith) m,
@@ -80,7 +80,7 @@ module _ {g : Build} (geo : Geo g) where
 
   pub marked-settling : (p : Bool) (f : Flash) → Sized g slot0 f
       → Marked g 3 (trailer g slot0 (runAll g (settling g p) f))
-          × (part (trailer g slot0 (runAll g (settling g p) f)) (magicAt g .0) 16 ≡ magicBytes)
+      × (part (trailer g slot0 (runAll g (settling g p) f)) (magicAt g .0) 16 ≡ magicBytes)
   unfolding settling line5 runAll apply trailer
   marked-settling p f s =
       let f₂ : Flash = apply g (clear g slot0) (apply g (clear g slot1) f) in
