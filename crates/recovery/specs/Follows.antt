@@ -16,8 +16,8 @@ use Rattle.plan.specs.declared.Course.the-variants.{Settle, Resume}
 use Rattle.plan.specs.Lists.{progress, begin, settle, moveOps, dataOps, exchange}
 use Rattle.plan.specs.Decision.{stepB, stateC, asks, judged, decide, listOf, okUnset, inForce, foundOf}
 use Rattle.recovery.specs.All.{All, none, one, one-less}
-use Rattle.recovery.specs.Cuts.{length-cut, runAll-append}
-use Rattle.recovery.specs.Windows.{hidden-run}
+use Rattle.recovery.specs.Cuts.{runAll-append}
+use Rattle.recovery.specs.Windows.{hidden-run, hidden-cut, all-lengths}
 use Rattle.recovery.specs.Places.{Geo, Sized}
 use Rattle.recovery.specs.Statement.{Sound, Proper, Failures, Exchange, by-test, by-permanent, by-revert, sectorOf}
 use Rattle.recovery.specs.Count.{rest-short, settle-short}
@@ -105,7 +105,7 @@ module _ (check : List ℕ → Bool) {g : Build} (geo : Geo g) (sound : Sound g)
     (quiet : isGood (magicOf g (trailer g scratch f₀)) ≡ false) (due : decide check g f₀ ≡ course) where
   keeps : (ops : List Op) (f f' : Flash) → Cut g ops f f' → SameLengths f₀ f → SameLengths f₀ f'
   unfolding SameLengths
-  keeps ops f f' k h a = length-cut g a k ∙ h a
+  keeps ops f f' k h a = hidden-cut (all-lengths g a ops) k ∙ h a
 
   -- what a decision says of the list in force
   planned : (f : Flash) → SameLengths f₀ f → (course : Course) → decide check g f ≡ course

@@ -31,7 +31,7 @@ module _ {g : Build} (geo : Geo g) where
     stays = λ f clean f' l k. record {
       alike = hidden-cut (hidden-begin geo p) k ∙ l .alike;
       quiet = cut-begin geo p (l .sized) (l .quiet) k;
-      sized = sized-cut g scratch f f' k (l .sized);
+      sized = sized-cut g scratch (begin g p) f f' k (l .sized);
     };
     works = λ f clean l. begin-run g p f clean (l .alike);
   }
