@@ -1,27 +1,30 @@
 -- What changes and what does not, while a list is carried out, stopped, or cut with harm.
-use mathlib.Core.Path.{_≡_, refl, sym, ap, _∙_}
+use mathlib.Core.Path.{_≡_, refl, ap, _∙_}
 use mathlib.Core.List.{List, [], _∷_, _++_}
-use mathlib.Core.Bool.{Bool, true, false, false≢true}
-use Prim.Native.Nat.{ℕ, zero, suc, _+_, _*_, _≤_, _<_}
+use mathlib.Core.Bool.{Bool, true, false}
+use Prim.Native.Nat.{ℕ, zero, suc, _+_, _*_, _-_, _≤_, _<_}
 use native.Mathlib.Omega.{arith}
-use lib.ListN.{length, take, drop}
-use Rattle.spans.specs.Bytes.{put, blank}
-use Rattle.spans.specs.Laws.{take-put-before, drop-put-after}
+use lib.ListN.{length, drop, length-drop}
+use Rattle.spans.specs.Choice.{pick}
 use Rattle.flash.specs.declared.Sector.{Sector}
-use Rattle.flash.specs.Geometry.{sectorNo, startOf, after}
-use Rattle.flash.specs.Build.{Area, slot0, slot1, scratch, Build, Move, Flash, area, geometry, sameArea, dataSectors, trailerSector}
-use Rattle.flash.specs.Operations.{Op, erase, store, apply, run}
-use Rattle.flash.specs.Harm.{Torn, as-before, half-erased, Cut}
-use Rattle.flash.specs.AreaLaws.{unseen}
-use Rattle.trailer.specs.Trailer.{okAt, doneAt, markBytes}
-use Rattle.plan.specs.Lists.{trailerUnit, clear, mark, progress, okOps, begin, settle, moveOps, dataOps, exchange, erases, clearOut}
-use Rattle.recovery.specs.All.{All, none, one, one-less, all-append, all-map}
-use Rattle.recovery.specs.Windows.{Hidden, wipe, hidden-cut, hidden-erase}
-use Rattle.recovery.specs.Places.{Geo, unit-back, unit-small, ok-unit, done-unit, length-mark, mark-whole}
+use Rattle.flash.specs.Geometry.{sectorNo}
+use Rattle.flash.specs.Build.{Area, slot0, slot1, scratch, Build, Move, Flash, area, dataSectors, trailerSector, valid}
+use Rattle.flash.specs.Operations.{Op, erase, apply, run}
+use Rattle.flash.specs.Harm.{Cut}
+use Rattle.trailer.specs.Trailer.{doneAt}
+use Rattle.plan.specs.declared.Course.{Course}
+use Rattle.plan.specs.declared.Course.the-variants.{Damage, Settle, Resume, Test, Permanent, Revert, Clear, Nothing}
+use Rattle.plan.specs.Lists.{clear, settle, dataOps, exchange, erases, clearOut}
+use Rattle.plan.specs.Decision.{decide, listOf, okUnset, inForce}
+use Rattle.recovery.specs.All.{All, none, one, all-append, all-map}
+use Rattle.recovery.specs.Windows.{Hidden, wipe, hidden-cut, hidden-erase, all-lengths}
+use Rattle.recovery.specs.Places.{Geo, unit-small, done-unit}
 use Rattle.recovery.specs.Statement.{Sound, sectorOf}
-use Rattle.recovery.specs.Hiding.{hidden-mark, hidden-ok, hidden-magic, hidden-begin, hidden-progress, hidden-move}
+use Rattle.recovery.specs.Validity.{of-valid}
+use Rattle.recovery.specs.Hiding.{wipeTrailer, hidden-mark, hidden-ok, hidden-magic, hidden-begin, hidden-progress, hidden-move}
 use Rattle.recovery.specs.Settling.{three-marks}
 use Rattle.recovery.specs.Sectors.{sameSector, sector-unwiped}
+use Rattle.recovery.specs.Unerased.{resume-means}
 
 -- f' is met while ops are carried out from f: after some of them, or after a failure among them
 pub data During (g : Build) (ops : List Op) (f f' : Flash) : Type 0 where
@@ -64,6 +67,23 @@ unfoldable pub targets : List Move → List Place
 targets [] = []
 targets (m ∷ ms) = place (m .to) (m .to-sector) ∷ targets ms
 
+-- k sectors from number i on
+unfoldable pub places : Area → ℕ → ℕ → List Place
+places a i zero = []
+places a i (suc k) = place a (sectorNo i) ∷ places a (suc i) k
+
+-- the sectors that document 01 names: the three trailer sectors and the moves' targets; slot 0's trailer sector and the targets of
+-- the moves that are left; slot 0's trailer sector (in it, image ok alone: `clear-out-only`) and slot 1
+unfoldable pub named : Build → Course → List Place
+named g Damage = []
+named g (Settle p) = trailerOf g slot0 ∷ trailerOf g slot1 ∷ trailerOf g scratch ∷ targets (g .moves)
+named g (Resume c) = trailerOf g slot0 ∷ targets (drop (c - 3) (g .moves))
+named g Test = trailerOf g slot0 ∷ trailerOf g slot1 ∷ trailerOf g scratch ∷ targets (g .moves)
+named g Permanent = trailerOf g slot0 ∷ trailerOf g slot1 ∷ trailerOf g scratch ∷ targets (g .moves)
+named g Revert = trailerOf g slot0 ∷ trailerOf g slot1 ∷ trailerOf g scratch ∷ targets (g .moves)
+named g Clear = trailerOf g slot0 ∷ trailerOf g slot1 ∷ places slot1 0 (dataSectors g slot1)
+named g Nothing = []
+
 module _ {g : Build} (geo : Geo g) (b : Area) (k : Sector) where
   -- an operation in one sector does not show in another
   elsewhere : (a : Area) (j : Sector) → sameSector a j b k ≡ false → (op : Op) → Hidden g (wipe g a j) op
@@ -73,97 +93,79 @@ module _ {g : Build} (geo : Geo g) (b : Area) (k : Sector) where
     torn = λ f f' t. sector-unwiped geo a b j k f' f e (h .torn f f' t);
   }
 
-  unnamed-trailers : (p : Bool) → Unnamed (trailerOf g slot0 ∷ trailerOf g slot1 ∷ trailerOf g scratch ∷ []) b k
-      → All (Hidden g (λ f. sectorOf g f b k)) (begin g p ++ settle g p)
+  -- erases and writes in a trailer sector
+  cleared : (a : Area) → sameSector a (trailerSector g a) b k ≡ false → Hidden g (λ f. sectorOf g f b k) (clear g a)
+  cleared a e = elsewhere a (trailerSector g a) e (clear g a) (hidden-erase g a (trailerSector g a))
+
+  noted : {ops : List Op} (a : Area) → sameSector a (trailerSector g a) b k ≡ false → All (Hidden g (wipeTrailer g a)) ops
+      → All (Hidden g (λ f. sectorOf g f b k)) ops
+  noted a e hs = all-map (elsewhere a (trailerSector g a) e) hs
+
+  settle-elsewhere : (p : Bool) → sameSector slot0 (trailerSector g slot0) b k ≡ false → sameSector slot1 (trailerSector g slot1) b k ≡ false
+      → sameSector scratch (trailerSector g scratch) b k ≡ false → All (Hidden g (λ f. sectorOf g f b k)) (settle g p)
   unfolding settle
-  unnamed-trailers p (one n₀ (one n₁ (one n₂ none))) =
-      all-append (all-map (elsewhere scratch (trailerSector g scratch) n₂) (hidden-begin geo p))
-      (one (elsewhere slot1 (trailerSector g slot1) n₁ (clear g slot1) (hidden-erase g slot1 (trailerSector g slot1)))
-      (all-append (all-map (elsewhere slot0 (trailerSector g slot0) n₀) (one (hidden-erase g slot0 (trailerSector g slot0))
-      (all-append (hidden-ok geo slot0 p) (one (hidden-progress geo 0 (omega (arith, three-marks geo)))
-      (one (hidden-progress geo 1 (omega (arith, three-marks geo))) (one (hidden-progress geo 2 (omega (arith, three-marks geo)))
-      (hidden-magic geo slot0)))))))
-      (one (elsewhere scratch (trailerSector g scratch) n₂ (clear g scratch) (hidden-erase g scratch (trailerSector g scratch))) none)))
+  settle-elsewhere p n₀ n₁ n₂ =
+      let three : 3 < 3 * g .sectors = three-marks geo in
+      one (cleared slot1 n₁) (one (cleared slot0 n₀) (all-append (noted slot0 n₀ (all-append (hidden-ok geo slot0 p)
+      (one (hidden-progress geo 0 (omega arith)) (one (hidden-progress geo 1 (omega arith)) (one (hidden-progress geo 2 (omega arith))
+      (hidden-magic geo slot0)))))) (one (cleared scratch n₂) none)))
 
-  unnamed-targets : sameSector slot0 (trailerSector g slot0) b k ≡ false → (c : ℕ) (ms : List Move) → c + length ms ≤ 3 * g .sectors
-      → Unnamed (targets ms) b k → All (Hidden g (λ f. sectorOf g f b k)) (dataOps g c ms)
+  data-elsewhere : (c : ℕ) (ms : List Move) → c + length ms ≤ 3 * g .sectors → Unnamed (trailerOf g slot0 ∷ targets ms) b k
+      → All (Hidden g (λ f. sectorOf g f b k)) (dataOps g c ms)
   unfolding dataOps targets
-  unnamed-targets n₀ c [] l n =
-      one (elsewhere slot0 (trailerSector g slot0) n₀ (mark g slot0 (doneAt g) 1)
-      (hidden-mark geo slot0 (doneAt g) 1 (done-unit geo) (omega (arith, unit-small geo)))) none
-  unnamed-targets n₀ c (m ∷ ms) l n =
-      all-append (all-map (elsewhere (m .to) (m .to-sector) (one-less n .0)) (hidden-move geo m))
-      (one (elsewhere slot0 (trailerSector g slot0) n₀ (progress g c) (hidden-progress geo c (omega arith)))
-      (unnamed-targets n₀ (suc c) ms (omega arith) (one-less n .1)))
+  data-elsewhere c [] l (one n₀ n) =
+      noted slot0 n₀ (one (hidden-mark geo slot0 (doneAt g) 1 (done-unit geo) (omega (arith, unit-small geo))) none)
+  data-elsewhere c (m ∷ ms) l (one n₀ (one e n)) =
+      all-append (all-map (elsewhere (m .to) (m .to-sector) e) (hidden-move geo m))
+      (all-append (noted slot0 n₀ (one (hidden-progress geo c (omega arith)) none)) (data-elsewhere (suc c) ms (omega arith) (one n₀ n)))
 
-module _ {g : Build} (geo : Geo g) {f f' : Flash} where
-  -- the trailer exchange: the three trailer sectors
-  pub trailer-exchange-only : (p : Bool) → During g (begin g p ++ settle g p) f f'
-      → Only g (trailerOf g slot0 ∷ trailerOf g slot1 ∷ trailerOf g scratch ∷ []) f f'
-  trailer-exchange-only p d b k n = unchanged (unnamed-trailers geo b k p n) d
+  erases-elsewhere : (i r : ℕ) → Unnamed (places slot1 i r) b k → All (Hidden g (λ f. sectorOf g f b k)) (erases slot1 i r)
+  unfolding erases places
+  erases-elsewhere i zero n = none
+  erases-elsewhere i (suc r) (one e n) =
+      one (elsewhere slot1 (sectorNo i) e (erase slot1 (sectorNo i)) (hidden-erase g slot1 (sectorNo i))) (erases-elsewhere (suc i) r n)
 
-  -- moves, with their marks and copy done: the moves' targets, and slot 0's trailer sector
-  pub data-exchange-only : (c : ℕ) (ms : List Move) → c + length ms ≤ 3 * g .sectors → During g (dataOps g c ms) f f'
-      → Only g (trailerOf g slot0 ∷ targets ms) f f'
-  data-exchange-only c ms l d b k n = unchanged (unnamed-targets geo b k (one-less n .0) c ms l (one-less n .1)) d
+  module _ (sound : Sound g) where
+    rest-elsewhere : (p : Bool) → Unnamed (trailerOf g slot0 ∷ trailerOf g slot1 ∷ trailerOf g scratch ∷ targets (g .moves)) b k
+        → All (Hidden g (λ f. sectorOf g f b k)) (settle g p ++ dataOps g 3 (g .moves))
+    rest-elsewhere p (one n₀ (one n₁ (one n₂ n))) =
+        all-append (settle-elsewhere p n₀ n₁ n₂) (data-elsewhere 3 (g .moves) (sound .places) (one n₀ n))
 
--- ---- the clear-out
+    exchange-elsewhere : (p : Bool) → Unnamed (trailerOf g slot0 ∷ trailerOf g slot1 ∷ trailerOf g scratch ∷ targets (g .moves)) b k
+        → All (Hidden g (λ f. sectorOf g f b k)) (exchange g p)
+    unfolding exchange
+    exchange-elsewhere p (one n₀ (one n₁ (one n₂ n))) =
+        all-append (noted scratch n₂ (hidden-begin geo p)) (rest-elsewhere p (one n₀ (one n₁ (one n₂ n))))
 
--- where slot 0's image ok stands
-abbrev pub okPlace : Build → ℕ
-okPlace g = after (startOf (geometry g) (trailerSector g slot0)) (okAt g) .0
+    course-elsewhere : (unset : Bool) (course : Course) → ((c : ℕ) → course ≡ Resume c → (3 ≤ c) × (c ≤ 3 + length (g .moves)))
+        → Unnamed (named g course) b k → All (Hidden g (λ f. sectorOf g f b k)) (listOf g unset course)
+    unfolding listOf named clearOut
+    course-elsewhere unset Damage h n = none
+    course-elsewhere unset (Settle p) h n = rest-elsewhere p n
+    course-elsewhere unset (Resume c) h n =
+        let lo : 3 ≤ c = h c refl .0 in
+        let hi : c ≤ 3 + length (g .moves) = h c refl .1 in
+        data-elsewhere c (drop (c - 3) (g .moves)) (simp length-drop (omega (arith, sound .places))) n
+    course-elsewhere unset Test h n = exchange-elsewhere false n
+    course-elsewhere unset Permanent h n = exchange-elsewhere true n
+    course-elsewhere unset Revert h n = exchange-elsewhere true n
+    course-elsewhere unset Clear h (one n₀ (one n₁ n)) =
+        all-append (erases-elsewhere 0 (dataSectors g slot1) n)
+        (all-append (noted slot0 n₀ (hidden-ok geo slot0 unset)) (one (cleared slot1 n₁) none))
+    course-elsewhere unset Nothing h n = none
 
--- "erase slot 1's data sectors .., write slot 0 image ok 01 if it is Unset, erase slot 1's trailer sector": scratch is as it was,
--- and slot 0 is, before the unit of its image ok and after it
-pub record Cleared (g : Build) (f f' : Flash) : Type 0 where
-  pub in-scratch : f' .in2 ≡ f .in2
-  pub before-ok : take (okPlace g) (f' .in0) ≡ take (okPlace g) (f .in0)
-  pub after-ok : drop (okPlace g + g .unit) (f' .in0) ≡ drop (okPlace g + g .unit) (f .in0)
+-- While the list in force is carried out, from any areas, only the sectors that document 01 names for its course change.
+pub in-force-only : (check : List ℕ → Bool) (g : Build) → Sound g → {f f' : Flash} → During g (inForce check g f) f f'
+    → Only g (named g (decide check g f)) f f'
+unfolding inForce
+in-force-only check g sound {f} d b k n = unchanged (go (valid g f) refl) d
+  where
+    go : (v : Bool) → valid g f ≡ v → All (Hidden g (λ f. sectorOf g f b k)) (pick v (listOf g (okUnset g f) (decide check g f)) [])
+    go true e =
+        course-elsewhere (of-valid g f e .geo) b k sound (okUnset g f) (decide check g f)
+        (λ c q. let r = resume-means check g f q in (r .low, r .high)) n
+    go false e = none
 
-module _ {g : Build} (geo : Geo g) where
-  -- an erase in slot 1 shows in no other area
-  hidden-else : {B : Type 0} (F : List ℕ → B) (b : Area) (i : Sector) → sameArea slot1 b ≡ false
-      → Hidden g (λ f. F (area b f)) (erase slot1 i)
-  unfolding apply
-  hidden-else F b i e = record { done = λ f. past (blank (g .sector)) f; torn = torn }
-    where
-      past : (bs : List ℕ) (f : Flash) → F (area b (store slot1 (i .0 * g .sector) bs f)) ≡ F (area b f)
-      past bs f = unseen F slot1 b (i .0 * g .sector) bs f (λ q. absurd (false≢true (sym e ∙ q)))
-
-      torn : (f f' : Flash) → Torn g (erase slot1 i) f f' → F (area b f') ≡ F (area b f)
-      torn f f' (as-before q) = ap (λ (x : Flash). F (area b x)) q
-      torn f f' (half-erased bs l n q) = ap (λ (x : Flash). F (area b x)) q ∙ past bs f
-
-  hidden-erases : {B : Type 0} (F : List ℕ → B) (b : Area) (i k : ℕ) → sameArea slot1 b ≡ false
-      → All (Hidden g (λ f. F (area b f))) (erases slot1 i k)
-  unfolding erases
-  hidden-erases F b i zero e = none
-  hidden-erases F b i (suc k) e = one (hidden-else F b (sectorNo i) e) (hidden-erases F b (suc i) k e)
-
-  -- what the write of image ok does not show
-  hidden-okays : {B : Type 0} (F : List ℕ → B) (b : Area) (p : Bool) → ((f : Flash) → F (area b (apply g (mark g slot0 (okAt g) 1) f)) ≡ F (area b f))
-      → All (Hidden g (λ f. F (area b f))) (okOps g slot0 p)
-  unfolding okOps
-  hidden-okays F b true h =
-      one (record { done = h; torn = λ f f' t. ap (λ (x : Flash). F (area b x)) (mark-whole geo slot0 (okAt g) 1 (ok-unit geo) t) }) none
-  hidden-okays F b false h = none
-
-  hidden-out : {B : Type 0} (F : List ℕ → B) (b : Area) (p : Bool) → sameArea slot1 b ≡ false
-      → ((f : Flash) → F (area b (apply g (mark g slot0 (okAt g) 1) f)) ≡ F (area b f)) → All (Hidden g (λ f. F (area b f))) (clearOut g p)
-  unfolding clearOut
-  hidden-out F b p e h =
-      all-append (hidden-erases F b 0 (dataSectors g slot1) e)
-      (all-append (hidden-okays F b p h) (one (hidden-else F b (trailerSector g slot1) e) none))
-
-  pub clear-out-only : (p : Bool) {f f' : Flash} → During g (clearOut g p) f f' → Cleared g f f'
-  unfolding apply
-  clear-out-only p d =
-      let at : ℕ = trailerUnit g slot0 (okAt g) .0 * g .unit in
-      let e : at ≡ okPlace g = unit-back geo slot0 (okAt g) (ok-unit geo) in
-      record {
-        in-scratch = unchanged (hidden-out (λ xs. xs) scratch p refl (λ f. refl)) d;
-        before-ok = unchanged (hidden-out (take (okPlace g)) slot0 p refl (λ f.
-            take-put-before (f .in0) (okPlace g) at (markBytes g 1) (omega arith))) d;
-        after-ok = unchanged (hidden-out (drop (okPlace g + g .unit)) slot0 p refl (λ f.
-            drop-put-after (f .in0) (okPlace g + g .unit) at (markBytes g 1) (omega (arith, length-mark geo 1)))) d;
-      }
+-- and the areas are as long as they were
+pub same-lengths : (g : Build) (ops : List Op) {f f' : Flash} → During g ops f f' → (a : Area) → length (area a f') ≡ length (area a f)
+same-lengths g ops d a = unchanged (all-lengths g a ops) d

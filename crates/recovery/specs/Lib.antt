@@ -22,6 +22,7 @@ pub mod NeverLost
 pub mod BaseMoves
 pub mod Demand3
 pub mod Changes
+pub mod ClearOut
 pub mod Damage
 pub mod Edges
 pub mod Witness
