@@ -72,7 +72,7 @@ module _ {g : Build} (geo : Geo g) where
       rw (
         u .idle,
         good-read geo t (u .magic),
-        unset-read geo t (doneAt g) (u .marked .done),
+        unset-read geo t (doneAt g) (u .marked .free .done),
         m,
         legal-from geo (sound .small) (u .marked) b 0 (3 * g .sectors) (omega arith),
         ne-eqb c 0 (λ q. omega arith),
