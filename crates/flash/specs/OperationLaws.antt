@@ -1,10 +1,8 @@
 -- Laws of carrying out a list of operations.
-use mathlib.Core.Path.{_≡_, refl, sym, ap, _∙_}
+use mathlib.Core.Path.{_≡_, refl, ap, _∙_}
 use mathlib.Core.List.{List, [], _∷_, _++_}
 use Prim.Native.Nat.{ℕ}
-use Rattle.spans.specs.Bytes.{part}
-use Rattle.flash.specs.declared.Run.{Run}
-use Rattle.flash.specs.declared.End.the-variants.{Stopped, Unerased}
+use Rattle.flash.specs.declared.End.the-variants.{Stopped}
 use Rattle.flash.specs.Build.{Build, Flash}
 use Rattle.flash.specs.Operations.{Op, erase, write, copy, State, attempt, eraseIn, writeIn, step, steps}
 use Rattle.flash.specs.AreaLaws.{with-own}

@@ -1,6 +1,6 @@
 -- An exchange worked through: what it leaves, also when it is stopped somewhere and taken up again. (The theorem about this, for every
 -- geometry and with harm, is in the crate `recovery`.)
-use mathlib.Core.Path.{_≡_, refl}
+use mathlib.Core.Path.{refl}
 use mathlib.Core.List.{List, [], _∷_}
 use mathlib.Core.Bool.{Bool, true, false}
 use Prim.Native.Nat.{ℕ}

@@ -3,10 +3,8 @@ use mathlib.Core.Path.{_≡_}
 use mathlib.Core.List.{List}
 use mathlib.Core.Bool.{true, false, _&&_}
 use Prim.Native.Nat.{ℕ}
-use Rattle.spans.specs.Choice.{pick}
 use Rattle.flash.specs.Build.{Build}
 use Rattle.trailer.specs.Trailer.{okAt, doneAt, magicOf, markOf, isGood, isUnset, hasValue}
-use Rattle.plan.specs.declared.Course.{Course}
 use Rattle.plan.specs.declared.Course.the-variants.{Test, Permanent}
 use Rattle.plan.specs.Decision.{stepA, stepB, stateC, asks}
 

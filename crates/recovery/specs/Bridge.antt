@@ -2,17 +2,16 @@
 use mathlib.Core.Path.{_≡_, refl, sym, ap, _∙_}
 use mathlib.Core.List.{List, [], _∷_}
 use mathlib.Core.Bool.{Bool, true, false}
-use Prim.Native.Nat.{ℕ, zero, suc, _*_, _-_, _≤_, _<_, min}
+use Prim.Native.Nat.{ℕ, zero, suc, _*_, _-_, min}
 use native.Mathlib.Omega.{arith}
 use lib.ListN.{length}
 use lib.Dec.{ltb, leb·zero, leb·suc-zero, leb·suc-suc}
 use borrow.Author.Tests.{ne-eqb}
-use Rattle.spans.specs.Bytes.{part, put, blank, same}
+use Rattle.spans.specs.Bytes.{put, blank}
 use Rattle.spans.specs.Choice.{pick}
 use Rattle.spans.specs.Laws.{same-refl}
 use Rattle.flash.specs.declared.Sector.{Sector}
 use Rattle.flash.specs.declared.Unit.{Unit}
-use Rattle.flash.specs.declared.Run.{Run}
 use Rattle.flash.specs.declared.End.{End}
 use Rattle.flash.specs.declared.End.the-variants.{Going, Stopped, Unerased}
 use Rattle.flash.specs.Build.{Area, Build, Flash, area, with-area, geometry}

@@ -1,5 +1,5 @@
 -- Damage, and a geometry that is refused: nothing is carried out, all areas are as they were, the count is 0.
-use mathlib.Core.Path.{_≡_, refl, ap, _∙_}
+use mathlib.Core.Path.{_≡_, refl, ap}
 use mathlib.Core.List.{List, []}
 use mathlib.Core.Bool.{Bool, true, false}
 use Prim.Native.Nat.{ℕ}

@@ -18,7 +18,7 @@ use Rattle.plan.specs.Decision.{inForce}
 use Rattle.recovery.specs.Statement.{Failures, never, Due, Sound, Swapped}
 use Rattle.recovery.specs.Count.{one-if}
 use Rattle.recovery.specs.Validity.{Valid, of-valid}
-use Rattle.recovery.specs.NeverLost.{outcome-of, run-ends, steps-ends, steps-end}
+use Rattle.recovery.specs.NeverLost.{run-ends, steps-ends, steps-end}
 use Rattle.recovery.specs.BaseMoves.{base-sound, base-swaps, length-base}
 
 -- f is where the failures began, f' where they led, b the allowance of the power-up that follows

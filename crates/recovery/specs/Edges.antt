@@ -1,22 +1,21 @@
 -- The starred edges of document 01 on geometry, places, counts and states: one table, closed by computing.
-use mathlib.Core.Path.{_≡_, refl}
+use mathlib.Core.Path.{refl}
 use mathlib.Core.List.{List, [], _∷_, _++_}
 use mathlib.Core.Bool.{Bool, true, false}
-use Prim.Native.Nat.{ℕ, _+_, _*_, _/_, _%_}
+use Prim.Native.Nat.{ℕ, _*_, _/_, _%_}
 use lib.ListN.{length, take}
 use Rattle.spans.specs.Bytes.{part, put, blank, same}
 use Rattle.spans.specs.Choice.{every}
 use Rattle.spans.specs.Table.{Row, row, Holds, no-more, and}
 use Rattle.flash.specs.Geometry.{sectorNo, startOf, after}
 use Rattle.flash.specs.declared.Offset.{Offset}
-use Rattle.flash.specs.Build.{slot0, Build, geometry, trailerSector, Flash, asked, fits, valid}
+use Rattle.flash.specs.Build.{slot0, Build, geometry, trailerSector, Flash, asked, fits}
 use Rattle.flash.specs.Base.{threeMoves, allMoves, base}
 use Rattle.trailer.specs.Trailer.{magicBytes, trailer, magicAt, okAt, doneAt, markStands, magicOf, markOf, isGood, noMagic, isUnset, hasValue, written, legal}
 use Rattle.plan.specs.Lists.{writes, magicOps, okOps, begin, settle, copies, moveOps, dataOps, exchange}
 use Rattle.plan.specs.declared.Course.{Course}
-use Rattle.plan.specs.declared.Course.the-variants.{Damage, Test, Permanent, Revert, Nothing}
+use Rattle.plan.specs.declared.Course.the-variants.{Damage, Test, Nothing}
 use Rattle.plan.specs.Decision.{stepA, continue, stepB, stateC, asks, judged, decide}
-use Rattle.recovery.specs.Statement.{Due, by-test, by-permanent, by-revert}
 
 -- a geometry is taken, with areas of the right lengths
 taken : ℕ → ℕ → ℕ → Bool

@@ -8,7 +8,7 @@ use native.Mathlib.Nat.{add-zero}
 use native.Mathlib.Omega.{arith}
 use lib.ListN.{length, take, drop, length-take}
 use lib.Seq.{drop-drop}
-use Rattle.spans.specs.Bytes.{part, put, blank}
+use Rattle.spans.specs.Bytes.{part, blank}
 use Rattle.spans.specs.Laws.{length-blank, part-blank, part-put, part-put-after, blank-within}
 use Rattle.flash.specs.declared.Sector.{Sector}
 use Rattle.flash.specs.declared.Unit.{Unit}

@@ -1,7 +1,7 @@
 -- What a move does, whole or stopped on the way, and what a whole exchange does to the sectors.
-use mathlib.Core.Path.{_≡_, refl, sym, ap, ap₂, _∙_}
+use mathlib.Core.Path.{_≡_, sym, ap, ap₂, _∙_}
 use mathlib.Core.List.{List, [], _∷_, _++_}
-use mathlib.Core.Bool.{Bool, true, false}
+use mathlib.Core.Bool.{Bool, false}
 use Prim.Native.Nat.{ℕ, zero, suc, _+_, _*_, _≤_, _<_, min}
 use native.Mathlib.Nat.{mul-le-mul-right, zero-mul, zero-min, min-zero, suc-min-suc}
 use native.Mathlib.Omega.{arith}

@@ -1,8 +1,8 @@
 -- The data exchange: what a move with its mark leaves in the trailer sectors, and that B finds where to go on.
-use mathlib.Core.Path.{_≡_, refl, sym, ap, _∙_, subst}
-use mathlib.Core.List.{List, [], _∷_}
-use mathlib.Core.Bool.{Bool, true, false}
-use Prim.Native.Nat.{ℕ, suc, _+_, _*_, _-_, _≤_, _<_}
+use mathlib.Core.Path.{_≡_, sym, ap, _∙_, subst}
+use mathlib.Core.List.{List}
+use mathlib.Core.Bool.{Bool}
+use Prim.Native.Nat.{ℕ, suc, _+_, _*_, _≤_, _<_}
 use native.Mathlib.Nat.{mul-le-mul-right}
 use native.Mathlib.Omega.{arith}
 use lib.ListN.{length}
@@ -12,7 +12,7 @@ use Rattle.spans.specs.Laws.{length-blank, part-put-after}
 use Rattle.flash.specs.declared.Sector.{Sector}
 use Rattle.flash.specs.Build.{Area, slot0, scratch, Build, Move, Flash, dataSectors}
 use Rattle.flash.specs.Operations.{apply, runAll}
-use Rattle.trailer.specs.Trailer.{magicBytes, trailer, magicAt, doneAt, markAt, magicOf, markBytes, isGood, written}
+use Rattle.trailer.specs.Trailer.{trailer, magicAt, doneAt, markAt, magicOf, markBytes, isGood, written}
 use Rattle.plan.specs.declared.Course.the-variants.{Resume}
 use Rattle.plan.specs.Lists.{progress, moveOps}
 use Rattle.plan.specs.Decision.{continue, stepB, asks, judged, decide}

@@ -17,7 +17,7 @@ use Rattle.plan.specs.declared.Course.the-variants.{Damage, Settle, Resume, Tes
 use Rattle.plan.specs.Lists.{exchange}
 use Rattle.plan.specs.Decision.{stepA, stepB, stateC, asks, judged, decide, inForce}
 use Rattle.recovery.specs.Cuts.{run-all, stopped-cut}
-use Rattle.recovery.specs.Statement.{Failures, never, again, Exchange, by-test, by-permanent, by-revert, Due, Sound}
+use Rattle.recovery.specs.Statement.{Failures, again, Exchange, by-test, by-permanent, by-revert, Due, Sound}
 use Rattle.recovery.specs.Validity.{Valid, of-valid}
 use Rattle.recovery.specs.Follows.{Way, follows}
 use Rattle.recovery.specs.Bridge.{in-force-steps}

@@ -1,10 +1,10 @@
 -- Lines 3 to 6 of the trailer exchange: they see nothing of the slots' old trailers, and leave three marks and good magic in slot 0.
-use mathlib.Core.Path.{_≡_, refl, sym, ap, _∙_}
+use mathlib.Core.Path.{_≡_, refl, ap, _∙_}
 use mathlib.Core.List.{List, [], _∷_, _++_}
 use mathlib.Core.Bool.{Bool, true, false}
-use Prim.Native.Nat.{ℕ, suc, _+_, _*_, _-_, _≤_, _<_}
+use Prim.Native.Nat.{ℕ, suc, _*_, _-_, _≤_, _<_}
 use native.Mathlib.Omega.{arith}
-use Rattle.spans.specs.Bytes.{part, put, blank}
+use Rattle.spans.specs.Bytes.{part, blank}
 use Rattle.spans.specs.Laws.{part-blank, part-put}
 use Rattle.flash.specs.Build.{slot0, slot1, scratch, Build, Flash, trailerSector}
 use Rattle.flash.specs.Operations.{Op, apply, runAll}

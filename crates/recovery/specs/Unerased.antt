@@ -1,7 +1,7 @@
 -- No write of a power-up meets a unit that is not erased, from any areas whatever: the lists by their course.
-use mathlib.Core.Path.{_≡_, refl, sym, ap, _∙_, subst}
+use mathlib.Core.Path.{_≡_, refl, subst}
 use mathlib.Core.List.{List, [], _∷_, _++_}
-use mathlib.Core.Bool.{Bool, true, false, _&&_, not, false≢true}
+use mathlib.Core.Bool.{Bool, true, false, _&&_, not}
 use Prim.Native.Nat.{ℕ, zero, suc, _+_, _*_, _-_, _≤_, _<_}
 use native.Mathlib.Omega.{arith}
 use lib.ListN.{length, take, drop, length-drop}
@@ -11,7 +11,7 @@ use Rattle.spans.specs.Bytes.{part, blank}
 use Rattle.spans.specs.Choice.{pick}
 use Rattle.flash.specs.Geometry.{sectorNo}
 use Rattle.flash.specs.Build.{Area, slot0, slot1, scratch, Build, Flash, dataSectors, valid}
-use Rattle.flash.specs.Operations.{Op, erase, apply, runAll}
+use Rattle.flash.specs.Operations.{erase, apply, runAll}
 use Rattle.trailer.specs.declared.Mark.{Mark}
 use Rattle.trailer.specs.Trailer.{trailer, okAt, doneAt, markAt, magicOf, markOf, isGood, noMagic, isUnset, hasValue, written, legal}
 use Rattle.plan.specs.declared.Course.{Course}

@@ -2,16 +2,16 @@
 use mathlib.Core.Path.{_≡_, refl}
 use mathlib.Core.List.{List, [], _∷_}
 use mathlib.Core.Bool.{true, false}
-use Prim.Native.Nat.{ℕ, _<_}
+use Prim.Native.Nat.{ℕ}
 use native.Mathlib.Omega.{arith}
-use lib.ListN.{length, drop, replicate}
+use lib.ListN.{drop, replicate}
 use Rattle.spans.specs.Bytes.{part, put, blank, same}
 use Rattle.spans.specs.Choice.{every}
 use Rattle.flash.specs.Geometry.{sectorNo}
-use Rattle.flash.specs.Build.{scratch, Build, Flash, asked, fits, valid}
+use Rattle.flash.specs.Build.{scratch, Flash, asked, fits, valid}
 use Rattle.flash.specs.Base.{threeMoves, allMoves, base}
-use Rattle.flash.specs.Operations.{Op, erase, store, apply, run}
-use Rattle.flash.specs.Harm.{Torn, half-erased, Cut}
+use Rattle.flash.specs.Operations.{erase, store, run}
+use Rattle.flash.specs.Harm.{half-erased}
 use Rattle.trailer.specs.Trailer.{magicBytes, trailer, magicOf, markOf, isGood, noMagic, isUnset, hasValue, written, legal}
 use Rattle.plan.specs.declared.Course.the-variants.{Test, Permanent, Revert}
 use Rattle.plan.specs.Lists.{writes, magicOps, okOps, begin, settle, copies, moveOps, dataOps, exchange}

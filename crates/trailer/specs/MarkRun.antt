@@ -2,12 +2,10 @@
 use mathlib.Core.Path.{_≡_, refl, ap, _∙_}
 use mathlib.Core.List.{List}
 use mathlib.Core.Bool.{Bool, true, false}
-use Prim.Native.Nat.{ℕ, zero, suc, _+_, _≤_, _<_}
+use Prim.Native.Nat.{ℕ, zero, suc, _+_, _<_}
 use native.Mathlib.Nat.{add-zero}
 use native.Mathlib.Omega.{arith}
-use Rattle.spans.specs.Choice.{pick}
 use Rattle.flash.specs.Build.{Build}
-use Rattle.trailer.specs.declared.Mark.{Mark}
 use Rattle.trailer.specs.Trailer.{markAt, markOf, isUnset, written}
 
 module _ (g : Build) (t : List ℕ) where
