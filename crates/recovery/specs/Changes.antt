@@ -101,13 +101,15 @@ module _ {g : Build} (geo : Geo g) (b : Area) (k : Sector) where
       → All (Hidden g (λ f. sectorOf g f b k)) ops
   noted a e hs = all-map (elsewhere a (trailerSector g a) e) hs
 
-  settle-elsewhere : (p : Bool) → sameSector slot0 (trailerSector g slot0) b k ≡ false → sameSector slot1 (trailerSector g slot1) b k ≡ false
+  settle-elsewhere : (p : Bool) → sameSector slot0 (trailerSector g slot0) b k ≡ false
+      → sameSector slot1 (trailerSector g slot1) b k ≡ false
       → sameSector scratch (trailerSector g scratch) b k ≡ false → All (Hidden g (λ f. sectorOf g f b k)) (settle g p)
   unfolding settle
   settle-elsewhere p n₀ n₁ n₂ =
       let three : 3 < 3 * g .sectors = three-marks geo in
       one (cleared slot1 n₁) (one (cleared slot0 n₀) (all-append (noted slot0 n₀ (all-append (hidden-ok geo slot0 p)
-      (one (hidden-progress geo 0 (omega arith)) (one (hidden-progress geo 1 (omega arith)) (one (hidden-progress geo 2 (omega arith))
+      (one (hidden-progress geo 0 (omega arith)) (one (hidden-progress geo 1 (omega arith))
+      (one (hidden-progress geo 2 (omega arith))
       (hidden-magic geo slot0)))))) (one (cleared scratch n₂) none)))
 
   data-elsewhere : (c : ℕ) (ms : List Move) → c + length ms ≤ 3 * g .sectors → Unnamed (trailerOf g slot0 ∷ targets ms) b k
@@ -117,13 +119,15 @@ module _ {g : Build} (geo : Geo g) (b : Area) (k : Sector) where
       noted slot0 n₀ (one (hidden-mark geo slot0 (doneAt g) 1 (done-unit geo) (omega (arith, unit-small geo))) none)
   data-elsewhere c (m ∷ ms) l (one n₀ (one e n)) =
       all-append (all-map (elsewhere (m .to) (m .to-sector) e) (hidden-move geo m))
-      (all-append (noted slot0 n₀ (one (hidden-progress geo c (omega arith)) none)) (data-elsewhere (suc c) ms (omega arith) (one n₀ n)))
+      (all-append (noted slot0 n₀ (one (hidden-progress geo c (omega arith)) none))
+      (data-elsewhere (suc c) ms (omega arith) (one n₀ n)))
 
   erases-elsewhere : (i r : ℕ) → Unnamed (places slot1 i r) b k → All (Hidden g (λ f. sectorOf g f b k)) (erases slot1 i r)
   unfolding erases places
   erases-elsewhere i zero n = none
   erases-elsewhere i (suc r) (one e n) =
-      one (elsewhere slot1 (sectorNo i) e (erase slot1 (sectorNo i)) (hidden-erase g slot1 (sectorNo i))) (erases-elsewhere (suc i) r n)
+      one (elsewhere slot1 (sectorNo i) e (erase slot1 (sectorNo i)) (hidden-erase g slot1 (sectorNo i)))
+      (erases-elsewhere (suc i) r n)
 
   module _ (sound : Sound g) where
     rest-elsewhere : (p : Bool) → Unnamed (trailerOf g slot0 ∷ trailerOf g slot1 ∷ trailerOf g scratch ∷ targets (g .moves)) b k
@@ -167,5 +171,6 @@ in-force-only check g sound {f} d b k n = unchanged (go (valid g f) refl) d
     go false e = none
 
 -- and the areas are as long as they were
-pub same-lengths : (g : Build) (ops : List Op) {f f' : Flash} → During g ops f f' → (a : Area) → length (area a f') ≡ length (area a f)
+pub same-lengths : (g : Build) (ops : List Op) {f f' : Flash} → During g ops f f' → (a : Area)
+    → length (area a f') ≡ length (area a f)
 same-lengths g ops d a = unchanged (all-lengths g a ops) d

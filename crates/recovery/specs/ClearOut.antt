@@ -52,15 +52,21 @@ module _ {g : Build} (geo : Geo g) where
   hidden-erases F b i (suc k) e = one (hidden-else F b (sectorNo i) e) (hidden-erases F b (suc i) k e)
 
   -- what the write of image ok does not show
-  hidden-okays : {B : Type 0} (F : List ℕ → B) (b : Area) (p : Bool) → ((f : Flash) → F (area b (apply g (mark g slot0 (okAt g) 1) f)) ≡ F (area b f))
+  hidden-okays : {B : Type 0} (F : List ℕ → B) (b : Area) (p : Bool)
+      → ((f : Flash) → F (area b (apply g (mark g slot0 (okAt g) 1) f)) ≡ F (area b f))
       → All (Hidden g (λ f. F (area b f))) (okOps g slot0 p)
   unfolding okOps
   hidden-okays F b true h =
-      one (record { done = h; torn = λ f f' t. ap (λ (x : Flash). F (area b x)) (mark-whole geo slot0 (okAt g) 1 (ok-unit geo) t) }) none
+      one (record {
+        done = h;
+        torn = λ f f' t. ap (λ (x : Flash). F (area b x))
+            (mark-whole geo slot0 (okAt g) 1 (ok-unit geo) t);
+      }) none
   hidden-okays F b false h = none
 
   hidden-out : {B : Type 0} (F : List ℕ → B) (b : Area) (p : Bool) → sameArea slot1 b ≡ false
-      → ((f : Flash) → F (area b (apply g (mark g slot0 (okAt g) 1) f)) ≡ F (area b f)) → All (Hidden g (λ f. F (area b f))) (clearOut g p)
+      → ((f : Flash) → F (area b (apply g (mark g slot0 (okAt g) 1) f)) ≡ F (area b f))
+      → All (Hidden g (λ f. F (area b f))) (clearOut g p)
   unfolding clearOut
   hidden-out F b p e h =
       all-append (hidden-erases F b 0 (dataSectors g slot1) e)

@@ -1,7 +1,7 @@
--- DEMAND 3. Start from flash where an exchange is due under C, its image accepted (`Due`). Let power fail any number of times before
--- the exchange's last write is done, each failure doing the harm that document 01 allows (`Failures`). Then one power-up with an
--- allowance for a whole exchange leaves all three areas, byte for byte, as an exchange that was never cut, and the data sectors of
--- the two slots have changed places whole.
+-- DEMAND 3. Start from flash where an exchange is due under C, its image accepted (`Due`). Let power fail any number of times
+-- before the exchange's last write is done, each failure doing the harm that document 01 allows (`Failures`). Then one power-up
+-- with an allowance for a whole exchange leaves all three areas, byte for byte, as an exchange that was never cut, and the data
+-- sectors of the two slots have changed places whole.
 use mathlib.Core.Path.{_≡_, sym, _∙_}
 use mathlib.Core.List.{List}
 use mathlib.Core.Bool.{Bool}

@@ -93,7 +93,8 @@ trailer-part g a f u o l e =
 
 module _ {g : Build} (geo : Geo g) where
   fresh-mark : (a : Area) (at : Offset) (v : ℕ) {ops : List Op} (f : Flash) → g .unit ∣ at .0
-      → part (trailer g a f) (at .0) (g .unit) ≡ blank (g .unit) → Fresh g ops (apply g (mark g a at v) f) → Fresh g (mark g a at v ∷ ops) f
+      → part (trailer g a f) (at .0) (g .unit) ≡ blank (g .unit) → Fresh g ops (apply g (mark g a at v) f)
+      → Fresh g (mark g a at v ∷ ops) f
   fresh-mark a at v f d e p = writing (trailer-part g a f (trailerUnit g a at) (at .0) (g .unit) (unit-back geo a at d) ∙ e) p
 
   pub fresh-ok : (a : Area) (p : Bool) (f : Flash) → (p ≡ true → part (trailer g a f) (okAt g .0) (g .unit) ≡ blank (g .unit))
@@ -107,13 +108,15 @@ module _ {g : Build} (geo : Geo g) where
   fresh-magic a f e =
       let u : Unit = trailerUnit g a (magicAt g) in
       fresh-writes g a u (16 / g .unit) magicBytes f
-      (trailer-part g a f u (magicAt g .0) (16 / g .unit * g .unit) (unit-back geo a (magicAt g) (magic-unit geo)) ∙ rw (magic-units geo) e)
+      (trailer-part g a f u (magicAt g .0) (16 / g .unit * g .unit) (unit-back geo a (magicAt g) (magic-unit geo))
+      ∙ rw (magic-units geo) e)
 
   -- image ok and marks leave the place of the magic erased
   tail-ok : (p : Bool) → part (withOk g p (blank (g .sector))) (magicAt g .0) 16 ≡ blank 16
   unfolding withOk
   tail-ok true =
-      part-put-after (blank (g .sector)) (okAt g .0) (markBytes g 1) (magicAt g .0) 16 (omega (arith, length-mark geo 1, unit-small geo))
+      part-put-after (blank (g .sector)) (okAt g .0) (markBytes g 1) (magicAt g .0) 16
+      (omega (arith, length-mark geo 1, unit-small geo))
       ∙ part-blank (g .sector) (magicAt g .0) 16 (omega arith)
   tail-ok false = part-blank (g .sector) (magicAt g .0) 16 (omega arith)
 
@@ -170,7 +173,8 @@ module _ {g : Build} (geo : Geo g) where
       let s : ℕ = g .sector in
       let j : Sector = m .to-sector in
       let pj : j .0 * per g * g .unit ≡ j .0 * s = omega (arith, ap (λ (x : ℕ). j .0 * x) (per-back geo)) in
-      erasing (fresh-copies g (m .to) (m .from) (firstUnit (geometry g) (m .from-sector)) (firstUnit (geometry g) j) (per g) (wipe g (m .to) j f)
+      erasing (fresh-copies g (m .to) (m .from) (firstUnit (geometry g) (m .from-sector)) (firstUnit (geometry g) j) (per g)
+      (wipe g (m .to) j f)
       (rw (pj, per-back geo) (ap (λ (xs : List ℕ). part xs (j .0 * s) s) (area-store (m .to) (j .0 * s) (blank s) f)
       ∙ part-put (area (m .to) f) (j .0 * s) (blank s) s (length-blank s) (inside geo (m .to) j f z h))))
 
@@ -187,7 +191,8 @@ module _ {g : Build} (geo : Geo g) where
       fresh-append (moveOps g m) (progress g c ∷ dataOps g (suc c) ms) (fresh-move m f h (z (m .to)))
       (fresh-mark slot0 (markAt g c) (g .value c) f₁ (mark-unit geo c) (r₁ .after c (omega arith) p)
       (fresh-data ms (suc c) (apply g (progress g c) f₁) (one-less ok .1) (omega arith)
-      (λ a. sized-run g a (progress g c ∷ []) f₁ (z₁ a)) (rw (trailer-mark geo slot0 (markAt g c) (g .value c) f₁ (mark-unit geo c)) (free-mark geo p r₁))))
+      (λ a. sized-run g a (progress g c ∷ []) f₁ (z₁ a))
+      (rw (trailer-mark geo slot0 (markAt g c) (g .value c) f₁ (mark-unit geo c)) (free-mark geo p r₁))))
 
   -- ---- an exchange, from its third line and from its first
 

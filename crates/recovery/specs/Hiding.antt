@@ -77,4 +77,5 @@ pub move-run : (g : Build) (m : Move) (f f' : Flash) → wipe g (m .to) (m .to-s
     → runAll g (moveOps g m) f ≡ runAll g (moveOps g m) f'
 unfolding moveOps runAll apply
 move-run g m f f' e =
-    ap (runAll g (copies (m .from) (firstUnit (geometry g) (m .from-sector)) (m .to) (firstUnit (geometry g) (m .to-sector)) (per g))) e
+    ap (runAll g (copies (m .from) (firstUnit (geometry g) (m .from-sector)) (m .to) (firstUnit (geometry g) (m .to-sector))
+    (per g))) e

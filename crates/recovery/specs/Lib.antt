@@ -1,11 +1,22 @@
+-- Demand 3, and what it speaks of
+pub mod Demand3
+pub mod Statement
+pub mod Witness
+-- its companions: refusal 8 never comes; damage; what changes; the length of an exchange; the starred edges
+pub mod Bridge
+pub mod Unerased
+pub mod Damage
+pub mod Changes
+pub mod ClearOut
+pub mod Count
+pub mod Edges
+-- the proof, from lists and windows up
 pub mod All
 pub mod Cuts
 pub mod Windows
+pub mod Validity
 pub mod Places
 pub mod Reading
-pub mod Statement
-pub mod Validity
-pub mod Count
 pub mod Hiding
 pub mod Begin
 pub mod Settling
@@ -15,14 +26,6 @@ pub mod MoveRun
 pub mod Chunks
 pub mod Stages
 pub mod Follows
-pub mod Fresh
-pub mod Unerased
-pub mod Bridge
 pub mod NeverLost
 pub mod BaseMoves
-pub mod Demand3
-pub mod Changes
-pub mod ClearOut
-pub mod Damage
-pub mod Edges
-pub mod Witness
+pub mod Fresh

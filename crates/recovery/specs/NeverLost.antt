@@ -70,7 +70,8 @@ quiet {check} {g} {f} {course} due = go (isGood (magicOf g t2)) (due .decided)
 
 -- ---- the theorem
 
-module _ (check : List ℕ → Bool) {g : Build} (sound : Sound g) {f₀ : Flash} {course : Course} {p : Bool} (due : Due check g f₀ course p) where
+module _ (check : List ℕ → Bool) {g : Build} (sound : Sound g) {f₀ : Flash} {course : Course} {p : Bool}
+    (due : Due check g f₀ course p) where
   pub outcome-of : {f : Flash} → Failures g (inForce check g) f₀ f
       → (runAll g (inForce check g f) f ≡ runAll g (exchange g p) f₀) × Way check g p f₀ f
   outcome-of =
@@ -95,5 +96,6 @@ module _ (check : List ℕ → Bool) {g : Build} (sound : Sound g) {f₀ : Flash
     -- and nothing more is due
     pub steps-end : steps g (inForce check g f) (start b f) .run .end ≡ Going
     steps-end =
-        let n : ltb b (length (inForce check g f)) ≡ false = le-ltb b (length (inForce check g f)) (omega (arith, outcome-of fs .1 .short)) in
-        ap (λ (s : State). s .run .end) (in-force-steps check g sound b f) ∙ ap (λ (x : Bool). pick x Stopped Going) n
+        let n : ℕ = length (inForce check g f) in
+        let e : ltb b n ≡ false = le-ltb b n (omega (arith, outcome-of fs .1 .short)) in
+        ap (λ (s : State). s .run .end) (in-force-steps check g sound b f) ∙ ap (λ (x : Bool). pick x Stopped Going) e

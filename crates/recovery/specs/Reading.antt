@@ -59,7 +59,8 @@ module _ {g : Build} (geo : Geo g) where
           ap (λ (n : ℕ). same (v ∷ blank (g .unit - 1)) (blank n)) p ∙ rw (ne-eqb v 255 (λ q. omega arith))
 
 -- a mark that is read as Unset is erased
-pub unset-blank : (g : Build) (t : List ℕ) (at : Offset) → isUnset (markOf g t at) ≡ true → part t (at .0) (g .unit) ≡ blank (g .unit)
+pub unset-blank : (g : Build) (t : List ℕ) (at : Offset) → isUnset (markOf g t at) ≡ true
+    → part t (at .0) (g .unit) ≡ blank (g .unit)
 unfolding markOf isUnset
 unset-blank g t at h = go (same m (blank (g .unit))) (same (drop 1 m) (blank (g .unit - 1))) refl h
   where
@@ -157,7 +158,8 @@ module _ {g : Build} (geo : Geo g) where
       past o = part-put-before t at bs o (g .unit)
 
   -- mark number c is written
-  pub free-mark : {c : ℕ} {t : List ℕ} → c < 3 * g .sectors → Free g c t → Free g (suc c) (put t (markAt g c .0) (markBytes g (g .value c)))
+  pub free-mark : {c : ℕ} {t : List ℕ} → c < 3 * g .sectors → Free g c t
+      → Free g (suc c) (put t (markAt g c .0) (markBytes g (g .value c)))
   free-mark {c} {t} b r = record {
     done = past (doneAt g .0) (mark-room b) ∙ r .done;
     after = λ k q l. past (markAt g k .0) (mark-apart c k q) ∙ r .after k (omega arith) l;
