@@ -122,4 +122,4 @@ base-swaps w s n f p v = record {
 
     at : (b : Area) (k : Sector) → k .0 < dataSectors g b
         → sectorOf g (runAll g (exchange g p) f) b k ≡ moved (allMoves (n - 1)) (sectorOf g f) b k
-    at = sector-exchange (v .geo) p f (sound .proper) (sound .places) (v .sized)
+    at = sector-exchange (v .geo) p f (sound .proper) (omega (arith, sound .places)) (v .sized)

@@ -66,15 +66,16 @@ module _ {g : Build} (geo : Geo g) where
   unfolding decide asks judged stepB continue
   resumes check sound {c} f lo hi u =
       let t : List ℕ = trailer g slot0 f in
+      let small : (k : ℕ) → g .value k < 255 = λ k. omega (arith, sound .small k) in
       let b : c ≤ 3 * g .sectors = omega (arith, sound .places) in
       let m : written g t 0 (3 * g .sectors) ≡ c =
-      written-from geo (sound .small) (u .marked) b 0 (3 * g .sectors) (omega arith) (omega arith) ∙ omega arith in
+      written-from geo small (u .marked) b 0 (3 * g .sectors) (omega arith) (omega arith) ∙ omega arith in
       rw (
         u .idle,
         good-read geo t (u .magic),
         unset-read geo t (doneAt g) (u .marked .free .done),
         m,
-        legal-from geo (sound .small) (u .marked) b 0 (3 * g .sectors) (omega arith),
+        legal-from geo small (u .marked) b 0 (3 * g .sectors) (omega arith),
         ne-eqb c 0 (λ q. omega arith),
         le-leb 3 c lo,
         le-leb c (3 + length (g .moves)) hi,
