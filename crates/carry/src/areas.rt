@@ -1,6 +1,6 @@
 // Lists of operations over the three areas.
 ghost use mathlib.Core.Path.{_≡_};
-ghost use mathlib.Core.List.{List};
+ghost use mathlib.Core.List.{List, _++_};
 ghost use Prim.Native.Nat.{ℕ, _+_, _*_, _-_, _/_, _%_, _≤_, _<_};
 ghost use lib.ListN.{drop};
 ghost use Rattle.flash.specs.Build.{Area};
@@ -91,4 +91,58 @@ fn marked_move(
 {
     let moved = one_move(g, k, slot0, slot1, scratch, run);
     write_progress(g, slot0, k, moved)
+}
+
+// The moves from mark number c on, each with its mark; what is left is copy done.
+fn moves_from(g: Geometry, c: usize, slot0: &mut [u8], slot1: &mut [u8], scratch: &mut [u8], run: Run) -> Run
+    requires { ⌜ Small g ⌝ }
+    requires { ⌜ (3 ≤ c) × (c ≤ 3 * g .sectors) ⌝ }
+    ensures { λ r. ⌜ step (build g) (mark (build g) Area.slot0 (doneAt (build g)) 1) (state (now (slot0 .exit)) (now (slot1 .exit)) (now (scratch .exit)) r) ≡ steps (build g) (dataOps (build g) c (drop (c - 3) (allMoves (g .sectors - 1)))) (state (now (slot0 .entry)) (now (slot1 .entry)) (now (scratch .entry)) run) ⌝ }
+{
+    let mut r = run;
+    let mut k = c;
+    while k < 3 * g.sectors {
+        r = marked_move(g, k, slot0, slot1, scratch, r);
+        k += 1;
+    }
+    r
+}
+
+// The data exchange after c marks.
+pub fn data_exchange(g: Geometry, c: usize, slot0: &mut [u8], slot1: &mut [u8], scratch: &mut [u8], run: Run) -> Run
+    requires { ⌜ Small g ⌝ }
+    requires { ⌜ (3 ≤ c) × (c ≤ 3 * g .sectors) ⌝ }
+    ensures { λ r. ⌜ state (now (slot0 .exit)) (now (slot1 .exit)) (now (scratch .exit)) r ≡ steps (build g) (dataOps (build g) c (drop (c - 3) (allMoves (g .sectors - 1)))) (state (now (slot0 .entry)) (now (slot1 .entry)) (now (scratch .entry)) run) ⌝ }
+{
+    let moved = moves_from(g, c, slot0, slot1, scratch, run);
+    let at = trailer::places::done_place(g);
+    write_mark(g, slot0, Sector(g.sectors - 1), at, 1, moved)
+}
+
+// The trailer exchange from its third line on, and the data exchange.
+pub fn from_line_three(g: Geometry, slot0: &mut [u8], slot1: &mut [u8], scratch: &mut [u8], lasting: bool, run: Run) -> Run
+    requires { ⌜ Small g ⌝ }
+    ensures { λ r. ⌜ state (now (slot0 .exit)) (now (slot1 .exit)) (now (scratch .exit)) r ≡ steps (build g) (settle (build g) lasting ++ dataOps (build g) 3 (allMoves (g .sectors - 1))) (state (now (slot0 .entry)) (now (slot1 .entry)) (now (scratch .entry)) run) ⌝ }
+{
+    let trailers = lines_three_to_six(g, slot0, slot1, scratch, lasting, run);
+    data_exchange(g, 3, slot0, slot1, scratch, trailers)
+}
+
+pub fn whole_exchange(g: Geometry, slot0: &mut [u8], slot1: &mut [u8], scratch: &mut [u8], lasting: bool, run: Run) -> Run
+    requires { ⌜ Small g ⌝ }
+    ensures { λ r. ⌜ state (now (slot0 .exit)) (now (slot1 .exit)) (now (scratch .exit)) r ≡ steps (build g) (exchange (build g) lasting) (state (now (slot0 .entry)) (now (slot1 .entry)) (now (scratch .entry)) run) ⌝ }
+{
+    let begun = lines_one_two(g, scratch, lasting, run);
+    from_line_three(g, slot0, slot1, scratch, lasting, begun)
+}
+
+// The clear-out. Scratch, x2, has no part in it.
+pub fn clear_out(g: Geometry, slot0: &mut [u8], slot1: &mut [u8], unset: bool, run: Run) -> Run
+    requires { ⌜ Small g ⌝ }
+    ensures { λ r. ⌜ ((x2 : List ℕ) → state (now (slot0 .exit)) (now (slot1 .exit)) x2 r ≡ steps (build g) (clearOut (build g) unset) (state (now (slot0 .entry)) (now (slot1 .entry)) x2 run)) ⌝ }
+{
+    let last = g.sectors - 1;
+    let sectors = erase_sectors(g, slot1, last, run);
+    let ok = write_ok(g, slot0, Sector(last), unset, sectors);
+    flash::erase(g, slot1, Sector(last), ok)
 }

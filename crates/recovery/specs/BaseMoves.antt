@@ -1,6 +1,5 @@
 -- The base build is sound, its moves exchange the slots' data sectors, and how many operations that takes.
-use mathlib.Core.Path.{_≡_, refl, sym, _∙_}
-use mathlib.Core.List.{List}
+use mathlib.Core.Path.{_≡_, refl, _∙_}
 use mathlib.Core.Bool.{Bool, true, false}
 use Prim.Native.Nat.{ℕ, zero, suc, _+_, _*_, _-_, _/_, _≤_, _<_}
 use native.Mathlib.Nat.{mod-lt, div-eq-of-eq-mul-left}
@@ -123,4 +122,4 @@ base-swaps w s n f p v = record {
 
     at : (b : Area) (k : Sector) → k .0 < dataSectors g b
         → sectorOf g (runAll g (exchange g p) f) b k ≡ moved (allMoves (n - 1)) (sectorOf g f) b k
-    at = sector-exchange (v .geo) p f (sound .proper) (sound .places) (v .sized)
+    at = sector-exchange (v .geo) p f (sound .proper) (omega (arith, sound .places)) (v .sized)

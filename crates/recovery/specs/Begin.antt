@@ -1,9 +1,9 @@
 -- Lines 1 and 2 of the trailer exchange: scratch's magic is not Good before the last of it is written; then A takes over.
 use mathlib.Core.Path.{_≡_, refl, sym, ap, _∙_}
 use mathlib.Core.Logic.{_⊎_, inl, inr}
-use mathlib.Core.List.{List, [], _∷_, _++_}
+use mathlib.Core.List.{List, _++_}
 use mathlib.Core.Bool.{Bool, true, false}
-use Prim.Native.Nat.{ℕ, zero, suc, _+_, _*_, _-_, _/_, _≤_, _<_}
+use Prim.Native.Nat.{ℕ, zero, suc, _+_, _*_, _-_, _/_, _<_}
 use native.Mathlib.Omega.{arith}
 use lib.ListN.{length, take, drop, length-take, length-drop}
 use Rattle.spans.specs.Bytes.{part, put, blank}
@@ -18,8 +18,8 @@ use Rattle.plan.specs.declared.Course.the-variants.{Settle}
 use Rattle.plan.specs.Lists.{trailerUnit, clear, writes, magicOps, okOps, begin}
 use Rattle.plan.specs.Decision.{stepA}
 use Rattle.recovery.specs.All.{All, none, one}
-use Rattle.recovery.specs.Cuts.{runAll-append, cut-append, cut-nil, length-run, length-cut}
-use Rattle.recovery.specs.Windows.{Hidden, hidden-run, hidden-cut}
+use Rattle.recovery.specs.Cuts.{runAll-append, cut-append, cut-nil}
+use Rattle.recovery.specs.Windows.{Hidden, hidden-run, hidden-cut, all-lengths}
 use Rattle.recovery.specs.Places.{Geo, Sized, unit-back, unit-small, magic-unit, magic-units, ok-unit, length-mark, clear-whole, write-whole, mark-whole, trailer-store, trailer-clear, trailer-mark, trailer-magic}
 use Rattle.recovery.specs.Reading.{good-read, not-good-read, unset-read, value-read}
 use Rattle.recovery.specs.Hiding.{wipeTrailer}
@@ -33,10 +33,10 @@ same-size g a f f' e h =
     length-drop n (area a f') ∙ ap (λ (k : ℕ). k - n) e ∙ sym (length-drop n (area a f)) ∙ h
 
 pub sized-run : (g : Build) (a : Area) (ops : List Op) (f : Flash) → Sized g a f → Sized g a (runAll g ops f)
-sized-run g a ops f h = same-size g a f (runAll g ops f) (length-run g a ops f) h
+sized-run g a ops f h = same-size g a f (runAll g ops f) (hidden-run (all-lengths g a ops) f) h
 
-pub sized-cut : (g : Build) (a : Area) {ops : List Op} (f f' : Flash) → Cut g ops f f' → Sized g a f → Sized g a f'
-sized-cut g a f f' k h = same-size g a f f' (length-cut g a k) h
+pub sized-cut : (g : Build) (a : Area) (ops : List Op) (f f' : Flash) → Cut g ops f f' → Sized g a f → Sized g a f'
+sized-cut g a ops f f' k h = same-size g a f f' (hidden-cut (all-lengths g a ops) k) h
 
 -- ---- before the last unit of the magic, the last byte of scratch is erased
 

@@ -1,24 +1,22 @@
 -- Carrying out a list whose writes meet erased units: nothing but the allowance stops it, and refusal 8 never comes.
-use mathlib.Core.Path.{_≡_, refl, sym, ap, _∙_}
+use mathlib.Core.Path.{_≡_, sym, ap, _∙_}
 use mathlib.Core.List.{List, [], _∷_}
 use mathlib.Core.Bool.{Bool, true, false}
-use Prim.Native.Nat.{ℕ, zero, suc, _*_, _-_, _≤_, _<_, min}
+use Prim.Native.Nat.{ℕ, zero, suc, _*_, _-_, min}
 use native.Mathlib.Omega.{arith}
 use lib.ListN.{length}
 use lib.Dec.{ltb, leb·zero, leb·suc-zero, leb·suc-suc}
 use borrow.Author.Tests.{ne-eqb}
-use Rattle.spans.specs.Bytes.{part, put, blank, same}
+use Rattle.spans.specs.Bytes.{put, blank}
 use Rattle.spans.specs.Choice.{pick}
 use Rattle.spans.specs.Laws.{same-refl}
 use Rattle.flash.specs.declared.Sector.{Sector}
 use Rattle.flash.specs.declared.Unit.{Unit}
-use Rattle.flash.specs.declared.Run.{Run}
-use Rattle.flash.specs.declared.End.{End}
 use Rattle.flash.specs.declared.End.the-variants.{Going, Stopped, Unerased}
 use Rattle.flash.specs.Build.{Area, Build, Flash, area, with-area, geometry}
 use Rattle.flash.specs.Operations.{Op, erase, write, copy, unitOf, apply, run, local, going, attempt, eraseIn, erased, writeIn, State, back, step, steps, start}
 use Rattle.flash.specs.AreaLaws.{with-own}
-use Rattle.flash.specs.OperationLaws.{steps-stopped}
+use Rattle.flash.specs.OperationLaws.{halt, steps-stopped}
 use Rattle.plan.specs.Decision.{inForce}
 use Rattle.recovery.specs.Statement.{Sound}
 use Rattle.recovery.specs.Fresh.{Fresh, end, erasing, writing, copying}
@@ -35,14 +33,15 @@ carried g b ops f = record {
 
 module _ (g : Build) (f : Flash) where
   -- with nothing left of the allowance it is not begun
-  step-none : (op : Op) → step g op (start 0 f) ≡ record { flash = f; run = record { left = 0; end = Stopped } }
+  step-none : (op : Op) → step g op (start 0 f) ≡ halt 0 f
   unfolding step eraseIn writeIn attempt
-  step-none (erase a i) = ap (λ (x : Flash). record { flash = x; run = record { left = 0; end = Stopped } }) (with-own a f)
-  step-none (write a u bs) = ap (λ (x : Flash). record { flash = x; run = record { left = 0; end = Stopped } }) (with-own a f)
-  step-none (copy c v a u) = ap (λ (x : Flash). record { flash = x; run = record { left = 0; end = Stopped } }) (with-own a f)
+  step-none (erase a i) = ap (halt 0) (with-own a f)
+  step-none (write a u bs) = ap (halt 0) (with-own a f)
+  step-none (copy c v a u) = ap (halt 0) (with-own a f)
 
   -- with some left it is done, a write where the unit is erased
-  done : (b : ℕ) (a : Area) (ys : List ℕ) → back a (start (suc b) f) (attempt true ys (local (area a f) (going (suc b)))) ≡ start b (with-area a f ys)
+  done : (b : ℕ) (a : Area) (ys : List ℕ)
+      → back a (start (suc b) f) (attempt true ys (local (area a f) (going (suc b)))) ≡ start b (with-area a f ys)
   unfolding attempt
   done b a ys =
       let e : suc b - 1 ≡ b = omega arith in
@@ -53,16 +52,18 @@ module _ (g : Build) (f : Flash) where
   step-erase b a i = done b a (put (area a f) (i .0 * g .sector) (blank (g .sector)))
 
   written : (b : ℕ) (a : Area) (u : Unit) (bs : List ℕ) → unitOf g a u f ≡ blank (g .unit)
-      → back a (start (suc b) f) (writeIn (geometry g) u bs (local (area a f) (going (suc b)))) ≡ start b (with-area a f (put (area a f) (u .0 * g .unit) bs))
+      → back a (start (suc b) f) (writeIn (geometry g) u bs (local (area a f) (going (suc b))))
+      ≡ start b (with-area a f (put (area a f) (u .0 * g .unit) bs))
   unfolding writeIn erased
   written b a u bs e = rw (e, same-refl (blank (g .unit))) (done b a (put (area a f) (u .0 * g .unit) bs))
 
 -- ---- a list
 
--- a state with its allowance and its end written another way
-same-state : (f : Flash) {l l' : ℕ} {e e' : End} → l ≡ l' → e ≡ e'
-    → _≡_ {A = State} (record { flash = f; run = record { left = l; end = e } }) (record { flash = f; run = record { left = l'; end = e' } })
-same-state f p q i = record { flash = f; run = record { left = p i; end = q i } }
+-- a state whose allowance and end are written another way; `short`: another operation is due
+same-state : (f : Flash) {left left' : ℕ} {short short' : Bool} → left ≡ left' → short ≡ short'
+    → _≡_ {A = State} (record { flash = f; run = record { left = left; end = pick short Stopped Going } })
+    (record { flash = f; run = record { left = left'; end = pick short' Stopped Going } })
+same-state f p q i = record { flash = f; run = record { left = p i; end = pick (q i) Stopped Going } }
 
 -- one operation more, on both sides
 more : (g : Build) (b : ℕ) (op : Op) (ops : List Op) (f : Flash) → step g op (start (suc b) f) ≡ start b (apply g op f)
@@ -71,15 +72,15 @@ more : (g : Build) (b : ℕ) (op : Op) (ops : List Op) (f : Flash) → step g op
 unfolding steps run
 more g b op ops f e h =
     ap (steps g ops) e ∙ h
-    ∙ same-state (run g b ops (apply g op f)) (omega arith) (ap (λ (x : Bool). pick x Stopped Going) (sym (leb·suc-suc (suc b) (length ops))))
+    ∙ same-state (run g b ops (apply g op f)) (omega arith) (sym (leb·suc-suc (suc b) (length ops)))
 
 pub fresh-steps : (g : Build) (b : ℕ) (ops : List Op) (f : Flash) → Fresh g ops f → steps g ops (start b f) ≡ carried g b ops f
 unfolding steps run apply step
-fresh-steps g zero [] f end = same-state f (omega arith) refl
-fresh-steps g (suc b) [] f end = same-state f (omega arith) (ap (λ (x : Bool). pick x Stopped Going) (sym (leb·suc-zero (suc b))))
+fresh-steps g zero [] f end = same-state f (omega arith) (sym (leb·suc-zero 0))
+fresh-steps g (suc b) [] f end = same-state f (omega arith) (sym (leb·suc-zero (suc b)))
 fresh-steps g zero (op ∷ ops) f p =
     ap (steps g ops) (step-none g f op) ∙ steps-stopped g ops f 0
-    ∙ same-state f (omega arith) (ap (λ (x : Bool). pick x Stopped Going) (sym (leb·suc-suc 0 (length ops) ∙ leb·zero (length ops))))
+    ∙ same-state f (omega arith) (sym (leb·suc-suc 0 (length ops) ∙ leb·zero (length ops)))
 fresh-steps g (suc b) (op ∷ ops) f (erasing {a} {i} p) =
     more g b op ops f (step-erase g f b a i) (fresh-steps g b ops (apply g op f) p)
 fresh-steps g (suc b) (op ∷ ops) f (writing {a} {u} {bs} e p) =

@@ -20,8 +20,10 @@ allOps [] = []
 allOps (c ∷ cs) = c .ops ++ allOps cs
 
 -- Inv holds throughout because no operation, done or torn, can break it; Holds is what is wanted of each flash on the way.
-module _ {g : Build} (plan : Flash → List Op) (Inv Holds : Flash → Type 0) (keeps : (ops : List Op) (f f' : Flash) → Cut g ops f f' → Inv f → Inv f') where
-  -- from a clean flash the plan is all the chunks, from what a cut in the first leaves too; and so for the rest, once the first is done
+module _ {g : Build} (plan : Flash → List Op) (Inv Holds : Flash → Type 0)
+    (keeps : (ops : List Op) (f f' : Flash) → Cut g ops f f' → Inv f → Inv f') where
+  -- from a clean flash the plan is all the chunks, from what a cut in the first leaves too; and so for the rest, once the first is
+  -- done
   pub data Good : List (Chunk g) → Flash → Type 1 where
     over : {f : Flash} → Good [] f
     first : {c : Chunk g} {cs : List (Chunk g)} {clean : Flash} → c .Like clean clean
@@ -40,13 +42,15 @@ module _ {g : Build} (plan : Flash → List Op) (Inv Holds : Flash → Type 0) (
   begins : {c : Chunk g} {cs : List (Chunk g)} {f : Flash} → Good (c ∷ cs) f → c .Like f f
   begins (first l p q) = l
 
-  plans : {c : Chunk g} {cs : List (Chunk g)} {clean : Flash} → Good (c ∷ cs) clean → (f : Flash) → c .Like f clean → Inv f → (plan f ≡ allOps (c ∷ cs)) × Holds f
+  plans : {c : Chunk g} {cs : List (Chunk g)} {clean : Flash} → Good (c ∷ cs) clean → (f : Flash) → c .Like f clean → Inv f
+      → (plan f ≡ allOps (c ∷ cs)) × Holds f
   plans (first l p q) = p
 
   later-on : {c : Chunk g} {cs : List (Chunk g)} {clean : Flash} → Good (c ∷ cs) clean → Good cs (runAll g (c .ops) clean)
   later-on (first l p q) = q
 
-  cut-chunks : (end : Flash) (cs : List (Chunk g)) (c : Chunk g) (clean f f' : Flash) → Good (c ∷ cs) clean → c .Like f clean → Inv f'
+  cut-chunks : (end : Flash) (cs : List (Chunk g)) (c : Chunk g) (clean f f' : Flash) → Good (c ∷ cs) clean → c .Like f clean
+      → Inv f'
       → runAll g (allOps (c ∷ cs)) clean ≡ end → Cut g (allOps (c ∷ cs)) f f' → Stage end f'
   unfolding allOps
   cut-chunks end [] c clean f f' good like inv e k = go (cut-append (c .ops) [] k)
@@ -54,7 +58,8 @@ module _ {g : Build} (plan : Flash → List Op) (Inv Holds : Flash → Type 0) (
       go : Cut g (c .ops) f f' ⊎ Cut g [] (runAll g (c .ops) f) f' → Stage end f'
       go (inl k) = record { chunk = c; rest = []; clean = clean; good = good; like = c .stays f clean f' like k; inv = inv; ends = e }
       go (inr k) = absurd (cut-nil k)
-  cut-chunks end (d ∷ cs) c clean f f' good like inv e k = go (cut-chunks end cs d (runAll g (c .ops) clean)) (cut-append (c .ops) (allOps (d ∷ cs)) k)
+  cut-chunks end (d ∷ cs) c clean f f' good like inv e k = go (cut-chunks end cs d (runAll g (c .ops) clean))
+      (cut-append (c .ops) (allOps (d ∷ cs)) k)
     where
       go : ((f f' : Flash) → Good (d ∷ cs) (runAll g (c .ops) clean) → d .Like f (runAll g (c .ops) clean) → Inv f'
           → runAll g (allOps (d ∷ cs)) (runAll g (c .ops) clean) ≡ end → Cut g (allOps (d ∷ cs)) f f' → Stage end f')
@@ -69,7 +74,8 @@ module _ {g : Build} (plan : Flash → List Op) (Inv Holds : Flash → Type 0) (
     stage never = record { chunk = c; rest = cs; clean = f₀; good = good; like = begins good; inv = inv; ends = refl }
     stage (again {f₁} {f₂} fs k) =
         let s : Stage (runAll g (allOps (c ∷ cs)) f₀) f₁ = stage fs in
-        cut-chunks (runAll g (allOps (c ∷ cs)) f₀) (s .rest) (s .chunk) (s .clean) f₁ f₂ (s .good) (s .like) (keeps (plan f₁) f₁ f₂ k (s .inv)) (s .ends)
+        cut-chunks (runAll g (allOps (c ∷ cs)) f₀) (s .rest) (s .chunk) (s .clean) f₁ f₂ (s .good) (s .like)
+        (keeps (plan f₁) f₁ f₂ k (s .inv)) (s .ends)
         (subst (λ (x : List Op). Cut g x f₁ f₂) (plans (s .good) f₁ (s .like) (s .inv) .0) k)
 
     -- after any failures the plan comes to the same end, and what is wanted holds

@@ -5,13 +5,9 @@ use mathlib.Core.List.{List, [], _∷_, _++_}
 use Prim.Native.Nat.{ℕ, zero, suc, _-_, _≤_, _<_}
 use native.Mathlib.Omega.{arith}
 use lib.ListN.{length, drop}
-use Rattle.flash.specs.Build.{Area, Build, Flash, area}
-use Rattle.flash.specs.Operations.{Op, erase, write, copy, unitOf, apply, run, runAll}
-use Rattle.flash.specs.Geometry.{startOf, placeOf}
-use Rattle.flash.specs.Build.{geometry}
-use Rattle.flash.specs.Harm.{Torn, as-before, half-erased, half-written, half-copied, Cut, here, later}
-use Rattle.flash.specs.AreaLaws.{length-store}
-use Rattle.spans.specs.Bytes.{blank}
+use Rattle.flash.specs.Build.{Build, Flash}
+use Rattle.flash.specs.Operations.{Op, apply, run, runAll}
+use Rattle.flash.specs.Harm.{Torn, as-before, Cut, here, later}
 
 pub runAll-append : (g : Build) (xs ys : List Op) (f : Flash) → runAll g (xs ++ ys) f ≡ runAll g ys (runAll g xs f)
 unfolding runAll
@@ -89,30 +85,3 @@ module _ {g : Build} where
 
   pub cut-nil : {f f' : Flash} → Cut g [] f f' → ⊥
   cut-nil c = nothing-to-cut c refl
-
--- ---- no operation, done or torn, changes the length of an area
-
-module _ (g : Build) (b : Area) where
-  length-apply : (op : Op) (f : Flash) → length (area b (apply g op f)) ≡ length (area b f)
-  unfolding apply
-  length-apply (erase a i) f = length-store a b (startOf (geometry g) i .0) (blank (g .sector)) f
-  length-apply (write a u bs) f = length-store a b (placeOf (geometry g) u .0) bs f
-  length-apply (copy c v a u) f = length-store a b (placeOf (geometry g) u .0) (unitOf g c v f) f
-
-  pub length-run : (ops : List Op) (f : Flash) → length (area b (runAll g ops f)) ≡ length (area b f)
-  unfolding runAll
-  length-run [] f = refl
-  length-run (op ∷ ops) f = length-run ops (apply g op f) ∙ length-apply op f
-
-  length-torn : {op : Op} {f f' : Flash} → Torn g op f f' → length (area b f') ≡ length (area b f)
-  length-torn (as-before e) = ap (λ x. length (area b x)) e
-  length-torn (half-erased {a} {i} {f} bs q l e) =
-      ap (λ x. length (area b x)) e ∙ length-store a b (startOf (geometry g) i .0) bs f
-  length-torn (half-written {a} {u} {bs} {f} bytes q l e) =
-      ap (λ x. length (area b x)) e ∙ length-store a b (placeOf (geometry g) u .0) bytes f
-  length-torn (half-copied {b = c} {a} {v} {u} {f} bytes q l e) =
-      ap (λ x. length (area b x)) e ∙ length-store a b (placeOf (geometry g) u .0) bytes f
-
-  pub length-cut : {ops : List Op} {f f' : Flash} → Cut g ops f f' → length (area b f') ≡ length (area b f)
-  length-cut (here t) = length-torn t
-  length-cut (later {op} {ops} {f} c) = length-cut c ∙ length-apply op f

@@ -1,11 +1,11 @@
--- DEMAND 3. Start from flash where an exchange is due under C, its image accepted (`Due`). Let power fail any number of times before
--- the exchange's last write is done, each failure doing the harm that document 01 allows (`Failures`). Then one power-up with an
--- allowance for a whole exchange leaves all three areas, byte for byte, as an exchange that was never cut, and the data sectors of
--- the two slots have changed places whole.
+-- DEMAND 3. Start from flash where an exchange is due under C, its image accepted (`Due`). Let power fail any number of times
+-- before the exchange's last write is done, each failure doing the harm that document 01 allows (`Failures`). Then one power-up
+-- with an allowance for a whole exchange leaves all three areas, byte for byte, as an exchange that was never cut, and the data
+-- sectors of the two slots have changed places whole.
 use mathlib.Core.Path.{_≡_, sym, _∙_}
 use mathlib.Core.List.{List}
 use mathlib.Core.Bool.{Bool}
-use Prim.Native.Nat.{ℕ, _+_, _*_, _-_, _/_, _≤_}
+use Prim.Native.Nat.{ℕ, _+_, _*_, _-_, _/_, _≤_, _<_}
 use native.Mathlib.Omega.{arith}
 use lib.ListN.{length}
 use Rattle.flash.specs.declared.End.the-variants.{Going}
@@ -15,10 +15,12 @@ use Rattle.flash.specs.Base.{base}
 use Rattle.plan.specs.declared.Course.{Course}
 use Rattle.plan.specs.Lists.{exchange}
 use Rattle.plan.specs.Decision.{inForce}
-use Rattle.recovery.specs.Statement.{Failures, never, Due, Sound, Swapped}
+use Rattle.recovery.specs.Cuts.{stopped-cut}
+use Rattle.recovery.specs.Statement.{Failures, never, again, Due, Sound, Swapped}
+use Rattle.recovery.specs.Bridge.{in-force-steps}
 use Rattle.recovery.specs.Count.{one-if}
 use Rattle.recovery.specs.Validity.{Valid, of-valid}
-use Rattle.recovery.specs.NeverLost.{outcome-of, run-ends, steps-ends, steps-end}
+use Rattle.recovery.specs.NeverLost.{run-ends, steps-ends, steps-end}
 use Rattle.recovery.specs.BaseMoves.{base-sound, base-swaps, length-base}
 
 -- f is where the failures began, f' where they led, b the allowance of the power-up that follows
@@ -45,6 +47,12 @@ never-lost check sound due fs b enough =
       ended = steps-end check sound due fs b enough;
     }
 
+-- A power-up that its allowance stops is a failure without harm: it may stand among the failures.
+pub stopped : (check : List ℕ → Bool) {g : Build} → Sound g → {f f' : Flash} → Failures g (inForce check g) f f' → (b : ℕ)
+    → b < length (inForce check g f') → Failures g (inForce check g) f (steps g (inForce check g f') (start b f') .flash)
+stopped check {g} sound {f' = f'} fs b l =
+    rw (in-force-steps check g sound b f') (again fs (stopped-cut g b (inForce check g f') f' l))
+
 -- For document 01's builds, with its formula for what is enough: "3m(s/w + 2) + 8 + 2p + 32/w".
 pub demand-3 : (check : List ℕ → Bool) (w s n : ℕ) {f f' : Flash} {course : Course} {p : Bool}
     → Due check (base w s n) f course p → Failures (base w s n) (inForce check (base w s n)) f f'
@@ -55,5 +63,5 @@ unfolding base
 demand-3 check w s n {f} {p = p} due fs b l =
     let v : Valid (base w s n) f = of-valid (base w s n) f (due .fits) in
     let sound : Sound (base w s n) = base-sound w s n (omega (arith, v .geo .two)) in
-    let h : length (exchange (base w s n) p) ≤ b = rw (length-base w s n p (v .geo)) l in
+    let h : length (exchange (base w s n) p) ≤ b = rw (length-base w s n p (v .geo)) (omega arith) in
     (never-lost check sound due fs b h, rw (steps-ends check sound due fs b h) (base-swaps w s n f p v))

@@ -16,8 +16,8 @@ use Rattle.plan.specs.declared.Course.the-variants.{Settle, Resume}
 use Rattle.plan.specs.Lists.{progress, begin, settle, moveOps, dataOps, exchange}
 use Rattle.plan.specs.Decision.{stepB, stateC, asks, judged, decide, listOf, okUnset, inForce, foundOf}
 use Rattle.recovery.specs.All.{All, none, one, one-less}
-use Rattle.recovery.specs.Cuts.{length-cut, runAll-append}
-use Rattle.recovery.specs.Windows.{hidden-run}
+use Rattle.recovery.specs.Cuts.{runAll-append}
+use Rattle.recovery.specs.Windows.{hidden-run, hidden-cut, all-lengths}
 use Rattle.recovery.specs.Places.{Geo, Sized}
 use Rattle.recovery.specs.Statement.{Sound, Proper, Failures, Exchange, by-test, by-permanent, by-revert, sectorOf}
 use Rattle.recovery.specs.Count.{rest-short, settle-short}
@@ -56,7 +56,8 @@ record At (g : Build) (f₀ : Flash) (c : ℕ) (ms : List Move) (f : Flash) : Ty
   proper : All (Proper g) ms
   under : Under g c f
   sized : (a : Area) → Sized g a f
-  sectors : (b : Area) (k : Sector) → k .0 < dataSectors g b → sectorOf g f b k ≡ moved (take (c - 3) (g .moves)) (sectorOf g f₀) b k
+  sectors : (b : Area) (k : Sector) → k .0 < dataSectors g b
+      → sectorOf g f b k ≡ moved (take (c - 3) (g .moves)) (sectorOf g f₀) b k
 
 next : {g : Build} → Geo g → Sound g → (f₀ : Flash) {c : ℕ} {m : Move} {ms : List Move} {f : Flash} → At g f₀ c (m ∷ ms) f
     → At g f₀ (suc c) ms (runAll g (moveOps g m ++ (progress g c ∷ [])) f)
@@ -100,12 +101,13 @@ not-found by-test = refl
 not-found by-permanent = refl
 not-found by-revert = refl
 
-module _ (check : List ℕ → Bool) {g : Build} (geo : Geo g) (sound : Sound g) {course : Course} {p : Bool} (which : Exchange course p)
+module _ (check : List ℕ → Bool) {g : Build} (geo : Geo g) (sound : Sound g) {course : Course} {p : Bool}
+    (which : Exchange course p)
     (f₀ : Flash) (fits : valid g f₀ ≡ true) (sized : (a : Area) → Sized g a f₀)
     (quiet : isGood (magicOf g (trailer g scratch f₀)) ≡ false) (due : decide check g f₀ ≡ course) where
   keeps : (ops : List Op) (f f' : Flash) → Cut g ops f f' → SameLengths f₀ f → SameLengths f₀ f'
   unfolding SameLengths
-  keeps ops f f' k h a = length-cut g a k ∙ h a
+  keeps ops f f' k h a = hidden-cut (all-lengths g a ops) k ∙ h a
 
   -- what a decision says of the list in force
   planned : (f : Flash) → SameLengths f₀ f → (course : Course) → decide check g f ≡ course
@@ -133,7 +135,8 @@ module _ (check : List ℕ → Bool) {g : Build} (geo : Geo g) (sound : Sound g)
       → Good (inForce check g) (SameLengths f₀) (Way check g p f₀) keeps (dataChunks geo c ms) clean
   unfolding dataChunks doneChunk moveChunk
   good-moves [] {c} a =
-      first refl (λ f l inv. follow-moves a f (subst (Under g c) (sym l) (a .under)) inv (λ b k q. ap (λ (x : Flash). sectorOf g x b k) l)) over
+      first refl (λ f l inv. follow-moves a f (subst (Under g c) (sym l) (a .under)) inv
+      (λ b k q. ap (λ (x : Flash). sectorOf g x b k) l)) over
   good-moves (m ∷ ms) {c} {clean} a =
       first refl (λ f l inv. follow-moves a f (under-wiped geo (m .to) f clean (one-less (a .proper) .0 .writes) l (a .under)) inv
       (λ b k q. sector-unwiped geo (m .to) b (m .to-sector) k f clean (q m ms refl) l))
@@ -204,7 +207,8 @@ module _ (check : List ℕ → Bool) {g : Build} (geo : Geo g) (sound : Sound g)
   unfolding chunks beginChunk settleChunk started
   good-exchange =
       let l : BeginLike g f₀ f₀ = record { alike = refl; quiet = quiet; sized = sized scratch } in
-      first {c = beginChunk geo p} l follow-begin (first {c = settleChunk geo p} refl follow-settle (good-moves (g .moves) settled-at))
+      first {c = beginChunk geo p} l follow-begin (first {c = settleChunk geo p} refl follow-settle
+      (good-moves (g .moves) settled-at))
 
   -- after any failures: the end of the exchange, and what holds on the way
   pub follows : {f : Flash} → Failures g (inForce check g) f₀ f

@@ -8,7 +8,7 @@ use native.Mathlib.Nat.{add-zero}
 use native.Mathlib.Omega.{arith}
 use lib.ListN.{length, take, drop, length-take}
 use lib.Seq.{drop-drop}
-use Rattle.spans.specs.Bytes.{part, put, blank}
+use Rattle.spans.specs.Bytes.{part, blank}
 use Rattle.spans.specs.Laws.{length-blank, part-blank, part-put, part-put-after, blank-within}
 use Rattle.flash.specs.declared.Sector.{Sector}
 use Rattle.flash.specs.declared.Unit.{Unit}
@@ -22,7 +22,7 @@ use Rattle.plan.specs.Lists.{trailerUnit, clear, mark, progress, writes, magicO
 use Rattle.recovery.specs.All.{All, one-less}
 use Rattle.recovery.specs.Windows.{wipe, hidden-run}
 use Rattle.recovery.specs.Places.{Geo, Sized, per, per-back, unit-back, unit-small, magic-unit, magic-units, ok-unit, done-unit, mark-unit, length-mark, trailer-clear, trailer-mark}
-use Rattle.recovery.specs.Reading.{Marked, mark-room, mark-apart}
+use Rattle.recovery.specs.Reading.{Free, Marked, mark-room, free-mark}
 use Rattle.recovery.specs.Statement.{Sound, Proper}
 use Rattle.recovery.specs.Hiding.{hidden-move}
 use Rattle.recovery.specs.Begin.{withOk, trailer-ok, sized-run}
@@ -91,14 +91,10 @@ unfolding part trailer
 trailer-part g a f u o l e =
     ap (λ (n : ℕ). take l (drop n (area a f))) e ∙ ap (take l) (sym (drop-drop o (dataSectors g a * g .sector) (area a f)))
 
--- the places that marks from number c on, and copy done, will take are erased
-pub record Free (g : Build) (c : ℕ) (t : List ℕ) : Type 0 where
-  pub done : part t (doneAt g .0) (g .unit) ≡ blank (g .unit)
-  pub after : (k : ℕ) → c ≤ k → k < 3 * g .sectors → part t (markAt g k .0) (g .unit) ≡ blank (g .unit)
-
 module _ {g : Build} (geo : Geo g) where
   fresh-mark : (a : Area) (at : Offset) (v : ℕ) {ops : List Op} (f : Flash) → g .unit ∣ at .0
-      → part (trailer g a f) (at .0) (g .unit) ≡ blank (g .unit) → Fresh g ops (apply g (mark g a at v) f) → Fresh g (mark g a at v ∷ ops) f
+      → part (trailer g a f) (at .0) (g .unit) ≡ blank (g .unit) → Fresh g ops (apply g (mark g a at v) f)
+      → Fresh g (mark g a at v ∷ ops) f
   fresh-mark a at v f d e p = writing (trailer-part g a f (trailerUnit g a at) (at .0) (g .unit) (unit-back geo a at d) ∙ e) p
 
   pub fresh-ok : (a : Area) (p : Bool) (f : Flash) → (p ≡ true → part (trailer g a f) (okAt g .0) (g .unit) ≡ blank (g .unit))
@@ -112,13 +108,15 @@ module _ {g : Build} (geo : Geo g) where
   fresh-magic a f e =
       let u : Unit = trailerUnit g a (magicAt g) in
       fresh-writes g a u (16 / g .unit) magicBytes f
-      (trailer-part g a f u (magicAt g .0) (16 / g .unit * g .unit) (unit-back geo a (magicAt g) (magic-unit geo)) ∙ rw (magic-units geo) e)
+      (trailer-part g a f u (magicAt g .0) (16 / g .unit * g .unit) (unit-back geo a (magicAt g) (magic-unit geo))
+      ∙ rw (magic-units geo) e)
 
   -- image ok and marks leave the place of the magic erased
   tail-ok : (p : Bool) → part (withOk g p (blank (g .sector))) (magicAt g .0) 16 ≡ blank 16
   unfolding withOk
   tail-ok true =
-      part-put-after (blank (g .sector)) (okAt g .0) (markBytes g 1) (magicAt g .0) 16 (omega (arith, length-mark geo 1, unit-small geo))
+      part-put-after (blank (g .sector)) (okAt g .0) (markBytes g 1) (magicAt g .0) 16
+      (omega (arith, length-mark geo 1, unit-small geo))
       ∙ part-blank (g .sector) (magicAt g .0) 16 (omega arith)
   tail-ok false = part-blank (g .sector) (magicAt g .0) 16 (omega arith)
 
@@ -161,9 +159,9 @@ module _ {g : Build} (geo : Geo g) where
       let marks : List Op = progress g 0 ∷ progress g 1 ∷ progress g 2 ∷ magicOps g slot0 in
       erasing (erasing (fresh-append (okOps g slot0 p ++ marks) (clear g scratch ∷ [])
       (fresh-append (okOps g slot0 p) marks (fresh-ok slot0 p f₁ (λ q. rw t ok-blank))
-      (fresh-mark slot0 (markAt g 0) (g .value 0) f₂ (mark-unit geo 0) (m₂ .after 0 (omega arith) h₀)
-      (fresh-mark slot0 (markAt g 1) (g .value 1) f₃ (mark-unit geo 1) (m₃ .after 1 (omega arith) h₁)
-      (fresh-mark slot0 (markAt g 2) (g .value 2) f₄ (mark-unit geo 2) (m₄ .after 2 (omega arith) h₂)
+      (fresh-mark slot0 (markAt g 0) (g .value 0) f₂ (mark-unit geo 0) (m₂ .free .after 0 (omega arith) h₀)
+      (fresh-mark slot0 (markAt g 1) (g .value 1) f₃ (mark-unit geo 1) (m₃ .free .after 1 (omega arith) h₁)
+      (fresh-mark slot0 (markAt g 2) (g .value 2) f₄ (mark-unit geo 2) (m₄ .free .after 2 (omega arith) h₂)
       (fresh-magic slot0 f₅ e₅)))))
       (erasing end)))
 
@@ -175,20 +173,10 @@ module _ {g : Build} (geo : Geo g) where
       let s : ℕ = g .sector in
       let j : Sector = m .to-sector in
       let pj : j .0 * per g * g .unit ≡ j .0 * s = omega (arith, ap (λ (x : ℕ). j .0 * x) (per-back geo)) in
-      erasing (fresh-copies g (m .to) (m .from) (firstUnit (geometry g) (m .from-sector)) (firstUnit (geometry g) j) (per g) (wipe g (m .to) j f)
+      erasing (fresh-copies g (m .to) (m .from) (firstUnit (geometry g) (m .from-sector)) (firstUnit (geometry g) j) (per g)
+      (wipe g (m .to) j f)
       (rw (pj, per-back geo) (ap (λ (xs : List ℕ). part xs (j .0 * s) s) (area-store (m .to) (j .0 * s) (blank s) f)
       ∙ part-put (area (m .to) f) (j .0 * s) (blank s) s (length-blank s) (inside geo (m .to) j f z h))))
-
-  free-progress : (c : ℕ) (f : Flash) → c < 3 * g .sectors → Free g c (trailer g slot0 f)
-      → Free g (suc c) (trailer g slot0 (apply g (progress g c) f))
-  free-progress c f h r = rw (trailer-mark geo slot0 (markAt g c) (g .value c) f (mark-unit geo c)) record {
-    done = after (doneAt g .0) (mark-room geo h) ∙ r .done;
-    after = λ k q l. after (markAt g k .0) (mark-apart geo c k q) ∙ r .after k (omega arith) l;
-  }
-    where
-      after : (o : ℕ) → markAt g c .0 + g .unit ≤ o
-          → part (put (trailer g slot0 f) (markAt g c .0) (markBytes g (g .value c))) o (g .unit) ≡ part (trailer g slot0 f) o (g .unit)
-      after o l = part-put-after (trailer g slot0 f) (markAt g c .0) (markBytes g (g .value c)) o (g .unit) (omega (arith, length-mark geo (g .value c)))
 
   pub fresh-data : (ms : List Move) (c : ℕ) (f : Flash) → All (Proper g) ms → c + length ms ≤ 3 * g .sectors
       → ((a : Area) → Sized g a f) → Free g c (trailer g slot0 f) → Fresh g (dataOps g c ms) f
@@ -203,7 +191,8 @@ module _ {g : Build} (geo : Geo g) where
       fresh-append (moveOps g m) (progress g c ∷ dataOps g (suc c) ms) (fresh-move m f h (z (m .to)))
       (fresh-mark slot0 (markAt g c) (g .value c) f₁ (mark-unit geo c) (r₁ .after c (omega arith) p)
       (fresh-data ms (suc c) (apply g (progress g c) f₁) (one-less ok .1) (omega arith)
-      (λ a. sized-run g a (progress g c ∷ []) f₁ (z₁ a)) (free-progress c f₁ p r₁)))
+      (λ a. sized-run g a (progress g c ∷ []) f₁ (z₁ a))
+      (rw (trailer-mark geo slot0 (markAt g c) (g .value c) f₁ (mark-unit geo c)) (free-mark geo p r₁))))
 
   -- ---- an exchange, from its third line and from its first
 
@@ -213,7 +202,7 @@ module _ {g : Build} (geo : Geo g) where
         let u : Under g 3 (runAll g (settle g p) f) = settled geo p f (z slot0) (z scratch) in
         fresh-append (settle g p) (dataOps g 3 (g .moves)) (fresh-settle p f (z slot0))
         (fresh-data (g .moves) 3 (runAll g (settle g p) f) (sound .proper) (sound .places) (λ a. sized-run g a (settle g p) f (z a))
-        (record { done = u .marked .done; after = u .marked .after }))
+        (u .marked .free))
 
     pub fresh-exchange : (p : Bool) (f : Flash) → ((a : Area) → Sized g a f) → Fresh g (exchange g p) f
     unfolding exchange

@@ -1,17 +1,17 @@
 -- What the window that wipes a sector hides: the writes in a trailer sector, a move.
-use mathlib.Core.Path.{_≡_, sym, ap}
-use mathlib.Core.List.{List, [], _∷_}
+use mathlib.Core.Path.{_≡_, ap}
+use mathlib.Core.List.{List}
 use mathlib.Core.Bool.{Bool, true, false}
 use Prim.Native.Nat.{ℕ, zero, suc, _+_, _*_, _/_, _≤_, _<_}
 use Prim.Native.Nat.{_∣_}
 use native.Mathlib.Omega.{arith}
-use lib.ListN.{length, take, drop, length-take, length-drop}
+use lib.ListN.{take, drop, length-take}
 use Rattle.flash.specs.declared.Sector.{Sector}
 use Rattle.flash.specs.declared.Unit.{Unit}
 use Rattle.flash.specs.declared.Offset.{Offset}
 use Rattle.flash.specs.Geometry.{firstUnit, nextUnit}
 use Rattle.flash.specs.Build.{Area, slot0, scratch, Build, Move, Flash, geometry, dataSectors, trailerSector}
-use Rattle.flash.specs.Operations.{Op, apply, runAll}
+use Rattle.flash.specs.Operations.{apply, runAll}
 use Rattle.trailer.specs.Trailer.{magicBytes, magicAt, okAt, markAt, markBytes}
 use Rattle.plan.specs.Lists.{trailerUnit, mark, progress, writes, magicOps, okOps, begin, copies, moveOps}
 use Rattle.recovery.specs.All.{All, none, one, all-append}
@@ -77,4 +77,5 @@ pub move-run : (g : Build) (m : Move) (f f' : Flash) → wipe g (m .to) (m .to-s
     → runAll g (moveOps g m) f ≡ runAll g (moveOps g m) f'
 unfolding moveOps runAll apply
 move-run g m f f' e =
-    ap (runAll g (copies (m .from) (firstUnit (geometry g) (m .from-sector)) (m .to) (firstUnit (geometry g) (m .to-sector)) (per g))) e
+    ap (runAll g (copies (m .from) (firstUnit (geometry g) (m .from-sector)) (m .to) (firstUnit (geometry g) (m .to-sector))
+    (per g))) e

@@ -1,6 +1,20 @@
+-- Demand 3, and what it speaks of
+pub mod Demand3
+pub mod Statement
+pub mod Witness
+-- its companions: refusal 8 never comes; damage; what changes; the length of an exchange; the starred edges
+pub mod Bridge
+pub mod Unerased
+pub mod Damage
+pub mod Changes
+pub mod ClearOut
+pub mod Count
+pub mod Edges
+-- the proof, from lists and windows up
 pub mod All
 pub mod Cuts
 pub mod Windows
+pub mod Validity
 pub mod Places
 pub mod Reading
 pub mod Statement
@@ -21,3 +35,6 @@ pub mod Bridge
 pub mod NeverLost
 pub mod BaseMoves
 pub mod Demand3
+pub mod NeverLost
+pub mod BaseMoves
+pub mod Fresh

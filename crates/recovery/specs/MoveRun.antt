@@ -1,7 +1,7 @@
 -- What a move does, whole or stopped on the way, and what a whole exchange does to the sectors.
-use mathlib.Core.Path.{_≡_, refl, sym, ap, ap₂, _∙_}
+use mathlib.Core.Path.{_≡_, sym, ap, ap₂, _∙_}
 use mathlib.Core.List.{List, [], _∷_, _++_}
-use mathlib.Core.Bool.{Bool, true, false}
+use mathlib.Core.Bool.{Bool, false}
 use Prim.Native.Nat.{ℕ, zero, suc, _+_, _*_, _≤_, _<_, min}
 use native.Mathlib.Nat.{mul-le-mul-right, zero-mul, zero-min, min-zero, suc-min-suc}
 use native.Mathlib.Omega.{arith}
@@ -108,7 +108,12 @@ module _ {g : Build} (geo : Geo g) where
       ∙ run-move m ok f z (per g)
       ∙ ap (λ (n : ℕ). store (m .to) at (part (area (m .from) f) (m .from-sector .0 * s) n) (wipe g (m .to) (m .to-sector) f)) k
       ∙ store-again (m .to) at (blank s) xs f
-      (omega (arith, length-blank s, length-part (area (m .from) f) (m .from-sector .0 * s) s (inside geo (m .from) (m .from-sector) f z (ok .reads))))
+      (omega (
+        arith,
+        length-blank s,
+        length-part (area (m .from) f) (m .from-sector .0 * s) s
+            (inside geo (m .from) (m .from-sector) f z (ok .reads)),
+      ))
 
   sector-move : (m : Move) → Proper g m → (f : Flash) → ((a : Area) → Sized g a f) → (b : Area) (k : Sector)
       → sectorOf g (runAll g (moveOps g m) f) b k ≡ moved1 m (sectorOf g f) b k
@@ -137,8 +142,10 @@ module _ {g : Build} (geo : Geo g) where
       ∙ sector-both geo b k f₂ f₁ h (hidden-run (hidden-settling geo p) f₁)
       ∙ sector-same geo scratch b k f₁ f h (hidden-run (hidden-begin geo p) f)
 
-  sector-data : (ms : List Move) (c : ℕ) (f : Flash) → All (Proper g) ms → c + length ms ≤ 3 * g .sectors → ((a : Area) → Sized g a f)
-      → (b : Area) (k : Sector) → k .0 < dataSectors g b → sectorOf g (runAll g (dataOps g c ms) f) b k ≡ moved ms (sectorOf g f) b k
+  sector-data : (ms : List Move) (c : ℕ) (f : Flash) → All (Proper g) ms → c + length ms ≤ 3 * g .sectors
+      → ((a : Area) → Sized g a f)
+      → (b : Area) (k : Sector) → k .0 < dataSectors g b
+      → sectorOf g (runAll g (dataOps g c ms) f) b k ≡ moved ms (sectorOf g f) b k
   unfolding dataOps moved runAll
   sector-data [] c f ok l z b k h =
       sector-same geo slot0 b k (apply g (mark g slot0 (doneAt g) 1) f) f h
@@ -149,7 +156,8 @@ module _ {g : Build} (geo : Geo g) where
       let z₂ : (a : Area) → Sized g a f₂ = λ a. sized-run g a (progress g c ∷ []) f₁ (sized-run g a (moveOps g m) f (z a)) in
       ap (λ (x : Flash). sectorOf g x b k) (runAll-append g (moveOps g m) (progress g c ∷ dataOps g (suc c) ms) f)
       ∙ sector-data ms (suc c) f₂ (one-less ok .1) (omega arith) z₂ b k h
-      ∙ moved-same g ms (one-less ok .1) (sectorOf g f₂) (moved1 m (sectorOf g f)) (sector-step m (one-less ok .0) c f (omega arith) z) b k h
+      ∙ moved-same g ms (one-less ok .1) (sectorOf g f₂) (moved1 m (sectorOf g f))
+      (sector-step m (one-less ok .0) c f (omega arith) z) b k h
 
   -- a whole exchange does to the sectors what its moves do
   pub sector-exchange : (p : Bool) (f : Flash) → All (Proper g) (g .moves) → 3 + length (g .moves) ≤ 3 * g .sectors

@@ -1,8 +1,8 @@
 -- The data exchange: what a move with its mark leaves in the trailer sectors, and that B finds where to go on.
-use mathlib.Core.Path.{_≡_, refl, sym, ap, _∙_, subst}
-use mathlib.Core.List.{List, [], _∷_}
-use mathlib.Core.Bool.{Bool, true, false}
-use Prim.Native.Nat.{ℕ, suc, _+_, _*_, _-_, _≤_, _<_}
+use mathlib.Core.Path.{_≡_, sym, ap, _∙_, subst}
+use mathlib.Core.List.{List}
+use mathlib.Core.Bool.{Bool}
+use Prim.Native.Nat.{ℕ, suc, _+_, _*_, _≤_, _<_}
 use native.Mathlib.Nat.{mul-le-mul-right}
 use native.Mathlib.Omega.{arith}
 use lib.ListN.{length}
@@ -12,7 +12,7 @@ use Rattle.spans.specs.Laws.{length-blank, part-put-after}
 use Rattle.flash.specs.declared.Sector.{Sector}
 use Rattle.flash.specs.Build.{Area, slot0, scratch, Build, Move, Flash, dataSectors}
 use Rattle.flash.specs.Operations.{apply, runAll}
-use Rattle.trailer.specs.Trailer.{magicBytes, trailer, magicAt, doneAt, markAt, magicOf, markBytes, isGood, written}
+use Rattle.trailer.specs.Trailer.{trailer, magicAt, doneAt, markAt, magicOf, markBytes, isGood, written}
 use Rattle.plan.specs.declared.Course.the-variants.{Resume}
 use Rattle.plan.specs.Lists.{progress, moveOps}
 use Rattle.plan.specs.Decision.{continue, stepB, asks, judged, decide}
@@ -66,15 +66,16 @@ module _ {g : Build} (geo : Geo g) where
   unfolding decide asks judged stepB continue
   resumes check sound {c} f lo hi u =
       let t : List ℕ = trailer g slot0 f in
+      let small : (k : ℕ) → g .value k < 255 = λ k. omega (arith, sound .small k) in
       let b : c ≤ 3 * g .sectors = omega (arith, sound .places) in
       let m : written g t 0 (3 * g .sectors) ≡ c =
-      written-from geo (sound .small) (u .marked) b 0 (3 * g .sectors) (omega arith) (omega arith) ∙ omega arith in
+      written-from geo small (u .marked) b 0 (3 * g .sectors) (omega arith) (omega arith) ∙ omega arith in
       rw (
         u .idle,
         good-read geo t (u .magic),
-        unset-read geo t (doneAt g) (u .marked .done),
+        unset-read geo t (doneAt g) (u .marked .free .done),
         m,
-        legal-from geo (sound .small) (u .marked) b 0 (3 * g .sectors) (omega arith),
+        legal-from geo small (u .marked) b 0 (3 * g .sectors) (omega arith),
         ne-eqb c 0 (λ q. omega arith),
         le-leb 3 c lo,
         le-leb c (3 + length (g .moves)) hi,

@@ -2,7 +2,7 @@
 use mathlib.Core.Path.{_≡_, refl, sym, ap, _∙_}
 use mathlib.Core.List.{List}
 use mathlib.Core.Bool.{Bool, true, false}
-use Prim.Native.Nat.{ℕ, _*_, _≤_, _<_}
+use Prim.Native.Nat.{ℕ, _*_, _≤_}
 use native.Mathlib.Omega.{arith}
 use lib.ListN.{length, take}
 use lib.Dec.{ltb}
@@ -16,8 +16,8 @@ use Rattle.plan.specs.declared.Course.{Course}
 use Rattle.plan.specs.declared.Course.the-variants.{Damage, Settle, Resume, Test, Permanent, Revert, Clear, Nothing}
 use Rattle.plan.specs.Lists.{exchange}
 use Rattle.plan.specs.Decision.{stepA, stepB, stateC, asks, judged, decide, inForce}
-use Rattle.recovery.specs.Cuts.{run-all, stopped-cut}
-use Rattle.recovery.specs.Statement.{Failures, never, again, Exchange, by-test, by-permanent, by-revert, Due, Sound}
+use Rattle.recovery.specs.Cuts.{run-all}
+use Rattle.recovery.specs.Statement.{Failures, Exchange, by-test, by-permanent, by-revert, Due, Sound}
 use Rattle.recovery.specs.Validity.{Valid, of-valid}
 use Rattle.recovery.specs.Follows.{Way, follows}
 use Rattle.recovery.specs.Bridge.{in-force-steps}
@@ -70,17 +70,13 @@ quiet {check} {g} {f} {course} due = go (isGood (magicOf g t2)) (due .decided)
 
 -- ---- the theorem
 
-module _ (check : List ℕ → Bool) {g : Build} (sound : Sound g) {f₀ : Flash} {course : Course} {p : Bool} (due : Due check g f₀ course p) where
+module _ (check : List ℕ → Bool) {g : Build} (sound : Sound g) {f₀ : Flash} {course : Course} {p : Bool}
+    (due : Due check g f₀ course p) where
   pub outcome-of : {f : Flash} → Failures g (inForce check g) f₀ f
       → (runAll g (inForce check g f) f ≡ runAll g (exchange g p) f₀) × Way check g p f₀ f
   outcome-of =
       let v : Valid g f₀ = of-valid g f₀ (due .fits) in
       follows check (v .geo) sound (due .which) f₀ (due .fits) (v .sized) (quiet due) (due .decided)
-
-  -- a power-up that its allowance stops is a failure without harm
-  pub stopped : {f : Flash} → Failures g (inForce check g) f₀ f → (b : ℕ) → b < length (inForce check g f)
-      → Failures g (inForce check g) f₀ (run g b (inForce check g f) f)
-  stopped {f} fs b l = again fs (stopped-cut g b (inForce check g f) f l)
 
   module _ {f : Flash} (fs : Failures g (inForce check g) f₀ f) (b : ℕ) (enough : length (exchange g p) ≤ b) where
     -- where one power-up with an allowance for a whole exchange leads
@@ -95,5 +91,6 @@ module _ (check : List ℕ → Bool) {g : Build} (sound : Sound g) {f₀ : Flash
     -- and nothing more is due
     pub steps-end : steps g (inForce check g f) (start b f) .run .end ≡ Going
     steps-end =
-        let n : ltb b (length (inForce check g f)) ≡ false = le-ltb b (length (inForce check g f)) (omega (arith, outcome-of fs .1 .short)) in
-        ap (λ (s : State). s .run .end) (in-force-steps check g sound b f) ∙ ap (λ (x : Bool). pick x Stopped Going) n
+        let n : ℕ = length (inForce check g f) in
+        let e : ltb b n ≡ false = le-ltb b n (omega (arith, outcome-of fs .1 .short)) in
+        ap (λ (s : State). s .run .end) (in-force-steps check g sound b f) ∙ ap (λ (x : Bool). pick x Stopped Going) e

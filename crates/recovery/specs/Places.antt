@@ -1,5 +1,5 @@
 -- Where things stand in a valid geometry, and what a trailer sector holds after an operation.
-use mathlib.Core.Path.{_≡_, refl, sym, ap, _∙_}
+use mathlib.Core.Path.{_≡_, sym, ap, _∙_}
 use mathlib.Core.List.{List, [], _∷_}
 use Prim.Native.Nat.{ℕ, zero, suc, _+_, _*_, _-_, _/_, _≤_, _<_}
 use Prim.Native.Nat.{_∣_}

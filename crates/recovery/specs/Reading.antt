@@ -6,7 +6,7 @@ use Prim.Native.Nat.{ℕ, zero, suc, _+_, _*_, _-_, _≤_, _<_}
 use native.Mathlib.Nat.{mul-le-mul-right}
 use native.Mathlib.Omega.{arith}
 use lib.ListN.{length, drop, getD}
-use lib.Dec.{eqb, ltb}
+use lib.Dec.{ltb}
 use borrow.Author.Tests.{ltb-true, ltb-false, eq-eqb, ne-eqb}
 use Rattle.spans.specs.Bytes.{part, put, blank, same}
 use Rattle.spans.specs.Choice.{pick}
@@ -59,7 +59,8 @@ module _ {g : Build} (geo : Geo g) where
           ap (λ (n : ℕ). same (v ∷ blank (g .unit - 1)) (blank n)) p ∙ rw (ne-eqb v 255 (λ q. omega arith))
 
 -- a mark that is read as Unset is erased
-pub unset-blank : (g : Build) (t : List ℕ) (at : Offset) → isUnset (markOf g t at) ≡ true → part t (at .0) (g .unit) ≡ blank (g .unit)
+pub unset-blank : (g : Build) (t : List ℕ) (at : Offset) → isUnset (markOf g t at) ≡ true
+    → part t (at .0) (g .unit) ≡ blank (g .unit)
 unfolding markOf isUnset
 unset-blank g t at h = go (same m (blank (g .unit))) (same (drop 1 m) (blank (g .unit - 1))) refl h
   where
@@ -72,13 +73,18 @@ unset-blank g t at h = go (same m (blank (g .unit))) (same (drop 1 m) (blank (g 
     go false true e h = absurd (false≢true h)
     go false false e h = absurd (false≢true h)
 
--- ---- slot 0's trailer while sectors are moved: c marks
+-- ---- slot 0's trailer while sectors are moved
 
+-- the places that marks from number c on, and copy done, will take are erased
+pub record Free (g : Build) (c : ℕ) (t : List ℕ) : Type 0 where
+  pub done : part t (doneAt g .0) (g .unit) ≡ blank (g .unit)
+  pub after : (k : ℕ) → c ≤ k → k < 3 * g .sectors → part t (markAt g k .0) (g .unit) ≡ blank (g .unit)
+
+-- and the marks before number c are written
 pub record Marked (g : Build) (c : ℕ) (t : List ℕ) : Type 0 where
   pub len : length t ≡ g .sector
-  pub done : part t (doneAt g .0) (g .unit) ≡ blank (g .unit)
   pub before : (k : ℕ) → k < c → part t (markAt g k .0) (g .unit) ≡ markBytes g (g .value k)
-  pub after : (k : ℕ) → c ≤ k → k < 3 * g .sectors → part t (markAt g k .0) (g .unit) ≡ blank (g .unit)
+  pub free : Free g c t
 
 module _ {g : Build} (geo : Geo g) (small : (k : ℕ) → g .value k < 255) {c : ℕ} {t : List ℕ} (m : Marked g c t)
     (h : c ≤ 3 * g .sectors) where
@@ -86,7 +92,7 @@ module _ {g : Build} (geo : Geo g) (small : (k : ℕ) → g .value k < 255) {c :
   marks-value k q = value-read geo t (markAt g k) (g .value k) (small k) (m .before k q)
 
   marks-unset : (k : ℕ) → c ≤ k → k < 3 * g .sectors → isUnset (markOf g t (markAt g k)) ≡ true
-  marks-unset k q r = unset-read geo t (markAt g k) (m .after k q r)
+  marks-unset k q r = unset-read geo t (markAt g k) (m .free .after k q r)
 
   pub written-from : (k r : ℕ) → k + r ≡ 3 * g .sectors → k ≤ c → written g t k r ≡ c - k
   unfolding written isUnset
@@ -129,9 +135,11 @@ module _ {g : Build} (geo : Geo g) where
   pub marked-blank : Marked g 0 (blank (g .sector))
   marked-blank = record {
     len = length-blank (g .sector);
-    done = part-blank (g .sector) (doneAt g .0) (g .unit) (omega (arith, geo .room, unit-small geo));
     before = λ k q. absurd (omega arith);
-    after = λ k q r. part-blank (g .sector) (markAt g k .0) (g .unit) (omega (arith, mark-room r));
+    free = record {
+      done = part-blank (g .sector) (doneAt g .0) (g .unit) (omega (arith, unit-small geo));
+      after = λ k q r. part-blank (g .sector) (markAt g k .0) (g .unit) (omega (arith, mark-room r));
+    };
   }
 
   -- image ok and magic stand behind the marks
@@ -139,21 +147,36 @@ module _ {g : Build} (geo : Geo g) where
       → Marked g c t → Marked g c (put t at bs)
   marked-far {c} {t} at bs b h m = record {
     len = length-put t at bs ∙ m .len;
-    done = before (doneAt g .0) (omega (arith, geo .room, unit-small geo)) ∙ m .done;
-    before = λ k q. before (markAt g k .0) (omega (arith, mark-room {k = k} (omega arith))) ∙ m .before k q;
-    after = λ k q r. before (markAt g k .0) (omega (arith, mark-room r)) ∙ m .after k q r;
+    before = λ k q. past (markAt g k .0) (omega (arith, mark-room {k = k} (omega arith))) ∙ m .before k q;
+    free = record {
+      done = past (doneAt g .0) (omega (arith, unit-small geo)) ∙ m .free .done;
+      after = λ k q r. past (markAt g k .0) (omega (arith, mark-room r)) ∙ m .free .after k q r;
+    };
   }
     where
-      before : (o : ℕ) → o + g .unit ≤ at → part (put t at bs) o (g .unit) ≡ part t o (g .unit)
-      before o = part-put-before t at bs o (g .unit)
+      past : (o : ℕ) → o + g .unit ≤ at → part (put t at bs) o (g .unit) ≡ part t o (g .unit)
+      past o = part-put-before t at bs o (g .unit)
+
+  -- mark number c is written
+  pub free-mark : {c : ℕ} {t : List ℕ} → c < 3 * g .sectors → Free g c t
+      → Free g (suc c) (put t (markAt g c .0) (markBytes g (g .value c)))
+  free-mark {c} {t} b r = record {
+    done = past (doneAt g .0) (mark-room b) ∙ r .done;
+    after = λ k q l. past (markAt g k .0) (mark-apart c k q) ∙ r .after k (omega arith) l;
+  }
+    where
+      bs : List ℕ
+      bs = markBytes g (g .value c)
+
+      past : (o : ℕ) → markAt g c .0 + g .unit ≤ o → part (put t (markAt g c .0) bs) o (g .unit) ≡ part t o (g .unit)
+      past o l = part-put-after t (markAt g c .0) bs o (g .unit) (omega (arith, length-mark geo (g .value c)))
 
   pub marked-mark : {c : ℕ} {t : List ℕ} → c < 3 * g .sectors → Marked g c t
       → Marked g (suc c) (put t (markAt g c .0) (markBytes g (g .value c)))
   marked-mark {c} {t} b m = record {
     len = length-put t at bs ∙ m .len;
-    done = after (doneAt g .0) (omega (arith, mark-room b)) ∙ m .done;
     before = λ k q. old k (omega arith) (ltb k c) refl;
-    after = λ k q r. after (markAt g k .0) (mark-apart c k q) ∙ m .after k (omega arith) r;
+    free = free-mark b (m .free);
   }
     where
       at : ℕ
@@ -162,12 +185,6 @@ module _ {g : Build} (geo : Geo g) where
       bs : List ℕ
       bs = markBytes g (g .value c)
 
-      n : length bs ≡ g .unit
-      n = length-mark geo (g .value c)
-
-      after : (o : ℕ) → at + g .unit ≤ o → part (put t at bs) o (g .unit) ≡ part t o (g .unit)
-      after o l = part-put-after t at bs o (g .unit) (omega (arith, n))
-
       old : (k : ℕ) → k ≤ c → (b : Bool) → ltb k c ≡ b → part (put t at bs) (markAt g k .0) (g .unit) ≡ markBytes g (g .value k)
       old k q true p =
           let l : k < c = ltb-true k c p in
@@ -175,4 +192,5 @@ module _ {g : Build} (geo : Geo g) where
       old k q false p =
           let e : k ≡ c = omega (arith, ltb-false k c p) in
           ap (λ (x : ℕ). part (put t at bs) (markAt g x .0) (g .unit)) e
-          ∙ part-put t at bs (g .unit) n (omega (arith, m .len, mark-room b)) ∙ ap (λ (x : ℕ). markBytes g (g .value x)) (sym e)
+          ∙ part-put t at bs (g .unit) (length-mark geo (g .value c)) (omega (arith, m .len, mark-room b))
+          ∙ ap (λ (x : ℕ). markBytes g (g .value x)) (sym e)

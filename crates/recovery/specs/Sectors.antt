@@ -6,7 +6,7 @@ use Prim.Native.Nat.{ℕ, suc, _+_, _*_, _≤_, _<_}
 use native.Mathlib.Nat.{mul-le-mul-right}
 use native.Mathlib.Numerals.{lt-of-le-of-ne}
 use native.Mathlib.Omega.{arith}
-use lib.ListN.{take-append-drop, length, take, drop, length-drop}
+use lib.ListN.{take-append-drop, length, length-drop}
 use lib.Dec.{eqb, ltb}
 use borrow.Author.Tests.{eqb-true, eqb-false, ne-eqb, ltb-true, ltb-false}
 use Rattle.spans.specs.Bytes.{part, put, blank}
@@ -58,7 +58,8 @@ moved-same g (m ∷ ms) ok σ τ e = moved-same g ms (one-less ok .1) (moved1 m 
 -- ---- what is stored in one sector does not show in another
 
 module _ (s : ℕ) (i j : Sector) (o l q : ℕ) (bs : List ℕ) (h : o + l ≤ s) (h' : q + length bs ≤ s) where
-  read-else : (xs : List ℕ) → eqb (j .0) (i .0) ≡ false → part (put xs (j .0 * s + q) bs) (i .0 * s + o) l ≡ part xs (i .0 * s + o) l
+  read-else : (xs : List ℕ) → eqb (j .0) (i .0) ≡ false
+      → part (put xs (j .0 * s + q) bs) (i .0 * s + o) l ≡ part xs (i .0 * s + o) l
   read-else xs e = go (ltb (i .0) (j .0)) refl
     where
       go : (b : Bool) → ltb (i .0) (j .0) ≡ b → part (put xs (j .0 * s + q) bs) (i .0 * s + o) l ≡ part xs (i .0 * s + o) l
@@ -148,10 +149,12 @@ module _ {g : Build} (geo : Geo g) where
   sector-both b k f f' h e = past f ∙ sector-same slot0 b k (wipeTrailer g slot1 f) (wipeTrailer g slot1 f') h e ∙ sym (past f')
     where
       past : (x : Flash) → sectorOf g x b k ≡ sectorOf g (wipeTrailer g slot1 x) b k
-      past x = sym (sector-else slot1 b (trailerSector g slot1) k (blank (g .sector)) x (length-blank (g .sector)) (trailer-else slot1 b k h))
+      past x = sym (sector-else slot1 b (trailerSector g slot1) k (blank (g .sector)) x (length-blank (g .sector))
+          (trailer-else slot1 b k h))
 
 -- a flash is its data sectors and its trailer sectors
-pub flash-ext : (g : Build) (f f' : Flash) → ((a : Area) (i : Sector) → i .0 < dataSectors g a → sectorOf g f a i ≡ sectorOf g f' a i)
+pub flash-ext : (g : Build) (f f' : Flash)
+    → ((a : Area) (i : Sector) → i .0 < dataSectors g a → sectorOf g f a i ≡ sectorOf g f' a i)
     → ((a : Area) → trailer g a f ≡ trailer g a f') → f ≡ f'
 unfolding sectorOf trailer
 flash-ext g f f' h t i = record { in0 = whole slot0 i; in1 = whole slot1 i; in2 = whole scratch i }

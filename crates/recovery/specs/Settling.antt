@@ -1,10 +1,11 @@
--- Lines 3 to 6 of the trailer exchange: they see nothing of the slots' old trailers, and leave three marks and good magic in slot 0.
-use mathlib.Core.Path.{_≡_, refl, sym, ap, _∙_}
+-- Lines 3 to 6 of the trailer exchange: they see nothing of the slots' old trailers, and leave three marks and good magic in
+-- slot 0.
+use mathlib.Core.Path.{_≡_, refl, ap, _∙_}
 use mathlib.Core.List.{List, [], _∷_, _++_}
 use mathlib.Core.Bool.{Bool, true, false}
-use Prim.Native.Nat.{ℕ, suc, _+_, _*_, _-_, _≤_, _<_}
+use Prim.Native.Nat.{ℕ, suc, _*_, _-_, _≤_, _<_}
 use native.Mathlib.Omega.{arith}
-use Rattle.spans.specs.Bytes.{part, put, blank}
+use Rattle.spans.specs.Bytes.{part, blank}
 use Rattle.spans.specs.Laws.{part-blank, part-put}
 use Rattle.flash.specs.Build.{slot0, slot1, scratch, Build, Flash, trailerSector}
 use Rattle.flash.specs.Operations.{Op, apply, runAll}
@@ -30,11 +31,13 @@ line5 g p = okOps g slot0 p ++ (progress g 0 ∷ progress g 1 ∷ progress g 2 �
 unfoldable pub settling : Build → Bool → List Op
 settling g p = clear g slot1 ∷ clear g slot0 ∷ line5 g p
 
-pub settle-run : (g : Build) (p : Bool) (f f' : Flash) → wipeBoth g f ≡ wipeBoth g f' → runAll g (settle g p) f ≡ runAll g (settle g p) f'
+pub settle-run : (g : Build) (p : Bool) (f f' : Flash) → wipeBoth g f ≡ wipeBoth g f'
+    → runAll g (settle g p) f ≡ runAll g (settle g p) f'
 unfolding settle runAll apply line5
 settle-run g p f f' e = ap (runAll g (line5 g p ++ (clear g scratch ∷ []))) e
 
-pub settle-split : (g : Build) (p : Bool) (f : Flash) → runAll g (settle g p) f ≡ apply g (clear g scratch) (runAll g (settling g p) f)
+pub settle-split : (g : Build) (p : Bool) (f : Flash)
+    → runAll g (settle g p) f ≡ apply g (clear g scratch) (runAll g (settling g p) f)
 unfolding settle settling line5 runAll
 settle-split g p f = runAll-append g (settling g p) (clear g scratch ∷ []) f
 

@@ -2,7 +2,7 @@
 use mathlib.Core.Path.{_≡_, refl, sym, ap, _∙_}
 use mathlib.Core.Logic.{_⊎_, inl, inr}
 use mathlib.Core.List.{List, [], _∷_, _++_, append-assoc}
-use mathlib.Core.Bool.{Bool, true, false}
+use mathlib.Core.Bool.{Bool, false}
 use Prim.Native.Nat.{ℕ, suc}
 use Rattle.flash.specs.Build.{slot0, scratch, Build, Move, Flash}
 use Rattle.flash.specs.Operations.{Op, runAll}
@@ -31,7 +31,7 @@ module _ {g : Build} (geo : Geo g) where
     stays = λ f clean f' l k. record {
       alike = hidden-cut (hidden-begin geo p) k ∙ l .alike;
       quiet = cut-begin geo p (l .sized) (l .quiet) k;
-      sized = sized-cut g scratch f f' k (l .sized);
+      sized = sized-cut g scratch (begin g p) f f' k (l .sized);
     };
     works = λ f clean l. begin-run g p f clean (l .alike);
   }

@@ -1,7 +1,7 @@
 -- No write of a power-up meets a unit that is not erased, from any areas whatever: the lists by their course.
-use mathlib.Core.Path.{_≡_, refl, sym, ap, _∙_, subst}
+use mathlib.Core.Path.{_≡_, refl, subst}
 use mathlib.Core.List.{List, [], _∷_, _++_}
-use mathlib.Core.Bool.{Bool, true, false, _&&_, not, false≢true}
+use mathlib.Core.Bool.{Bool, true, false, _&&_, not}
 use Prim.Native.Nat.{ℕ, zero, suc, _+_, _*_, _-_, _≤_, _<_}
 use native.Mathlib.Omega.{arith}
 use lib.ListN.{length, take, drop, length-drop}
@@ -11,7 +11,7 @@ use Rattle.spans.specs.Bytes.{part, blank}
 use Rattle.spans.specs.Choice.{pick}
 use Rattle.flash.specs.Geometry.{sectorNo}
 use Rattle.flash.specs.Build.{Area, slot0, slot1, scratch, Build, Flash, dataSectors, valid}
-use Rattle.flash.specs.Operations.{Op, erase, apply, runAll}
+use Rattle.flash.specs.Operations.{erase, apply, runAll}
 use Rattle.trailer.specs.declared.Mark.{Mark}
 use Rattle.trailer.specs.Trailer.{trailer, okAt, doneAt, markAt, magicOf, markOf, isGood, noMagic, isUnset, hasValue, written, legal}
 use Rattle.plan.specs.declared.Course.{Course}
@@ -82,7 +82,8 @@ module _ (g : Build) (t0 : List ℕ) (other : Course) {c : ℕ} (never : other �
       go true true lo hi pl plo phi h = absurd (never h)
       go true false true true pl plo phi h =
           let same : k ≡ c = cc in
-          subst (Resumable g t0) same (record { low = leb-true 3 k plo; high = leb-true k (3 + length (g .moves)) phi; run = pl; unfinished = u })
+          let high : k ≤ 3 + length (g .moves) = leb-true k (3 + length (g .moves)) phi in
+          subst (Resumable g t0) same (record { low = leb-true 3 k plo; high = high; run = pl; unfinished = u })
       go true false true false pl plo phi h = absurd (let z : _≡_ {A = ℕ} 0 1 = cc in omega arith)
       go true false false hi pl plo phi h = absurd (let z : _≡_ {A = ℕ} 0 1 = cc in omega arith)
 
@@ -93,7 +94,8 @@ module _ (g : Build) (t0 : List ℕ) (other : Course) {c : ℕ} (never : other �
       k : ℕ
       k = written g t0 0 (3 * g .sectors)
 
-      go : (a b : Bool) → isUnset (markOf g t0 (doneAt g)) ≡ b → pick (a && b) (continue g t0 k other) other ≡ Resume c → Resumable g t0 c
+      go : (a b : Bool) → isUnset (markOf g t0 (doneAt g)) ≡ b → pick (a && b) (continue g t0 k other) other ≡ Resume c
+          → Resumable g t0 c
       go true true e h = by-marks k e h
       go true false e h = absurd (never h)
       go false b e h = absurd (never h)
@@ -168,7 +170,8 @@ module _ {g : Build} (geo : Geo g) (sound : Sound g) (f : Flash) (z : (a : Area)
       let t : List ℕ = trailer g slot0 f in
       let low : 3 ≤ c = r .low in
       let high : c ≤ 3 + length (g .moves) = r .high in
-      fresh-data geo (drop (c - 3) (g .moves)) c f (all-drop (c - 3) (sound .proper)) (simp length-drop (omega (arith, sound .places))) z
+      fresh-data geo (drop (c - 3) (g .moves)) c f (all-drop (c - 3) (sound .proper))
+      (simp length-drop (omega (arith, sound .places))) z
       (record {
         done = unset-blank g t (doneAt g) (r .unfinished);
         after = λ k a b. legal-free g t c 0 (3 * g .sectors) (r .run) k a (omega arith) (omega arith);

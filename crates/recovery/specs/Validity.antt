@@ -1,6 +1,6 @@
 -- What a valid geometry gives.
 use mathlib.Core.Path.{_≡_, refl, sym, ap, _∙_, subst}
-use mathlib.Core.List.{List, [], _∷_}
+use mathlib.Core.List.{List}
 use mathlib.Core.Bool.{Bool, true, false, _||_, false≢true}
 use Prim.Native.Nat.{ℕ, suc, _+_, _*_, _-_, _%_, _≤_, _<_}
 use Prim.Native.Nat.{_∣_}
@@ -41,6 +41,7 @@ of-valid g f h = go (every-all (asked g (length (f .in0)) (length (f .in1)) (len
     go : All (λ (b : Bool). b ≡ true) (asked g (length (f .in0)) (length (f .in1)) (length (f .in2))) → Valid g f
     go (one u (one m (one lo (one hi (one n₂ (one n₈ (one l₀ (one l₁ (one l₂ none))))))))) =
         let two : 2 ≤ g .sectors = leb-true 2 (g .sectors) n₂ in
+        let many : g .sectors * g .unit ≤ 128 * g .unit = mul-le-mul-right (g .unit) (leb-true (g .sectors) 128 n₈) in
         let n : g .sectors * g .sector ≡ suc (g .sectors - 1) * g .sector =
         ap (λ (x : ℕ). x * g .sector) (let e : g .sectors ≡ suc (g .sectors - 1) = omega arith in e) in
         record {
@@ -48,7 +49,7 @@ of-valid g f h = go (every-all (asked g (length (f .in0)) (length (f .in1)) (len
             positive = units (g .unit) u .0;
             eight = units (g .unit) u .1;
             whole = dvd-of-mod-eq-zero (g .unit) (eqb-true (g .sector % g .unit) 0 m);
-            room = omega (arith, leb-true (384 * g .unit + 32) (g .sector) lo, mul-le-mul-right (g .unit) (leb-true (g .sectors) 128 n₈));
+            room = omega (arith, leb-true (384 * g .unit + 32) (g .sector) lo, many);
             two = two;
           };
           sized = elim [

@@ -8,10 +8,10 @@ use Rattle.spans.specs.Bytes.{part, blank}
 use Rattle.spans.specs.Laws.{length-blank}
 use Rattle.flash.specs.declared.Sector.{Sector}
 use Rattle.flash.specs.declared.Unit.{Unit}
-use Rattle.flash.specs.Build.{Area, Build, Flash}
+use Rattle.flash.specs.Build.{Area, Build, Flash, area}
 use Rattle.flash.specs.Operations.{Op, erase, write, copy, store, unitOf, apply, runAll}
 use Rattle.flash.specs.Harm.{Torn, as-before, half-erased, half-written, half-copied, Cut, here, later}
-use Rattle.flash.specs.AreaLaws.{store-over}
+use Rattle.flash.specs.AreaLaws.{length-store, store-over}
 use Rattle.recovery.specs.All.{All, none, one}
 
 -- through the window W the operation leaves no trace, done or torn
@@ -33,6 +33,28 @@ module _ {g : Build} {A : Type 0} {W : Flash → A} where
 pub hidden-behind : {g : Build} {A : Type 0} {W : Flash → Flash} {op : Op} (U : Flash → A)
     → Hidden g W op → Hidden g (λ f. U (W f)) op
 hidden-behind U h = record { done = λ f. ap U (h .done f); torn = λ f f' t. ap U (h .torn f f' t) }
+
+-- ---- the window that shows the length of an area hides everything
+
+module _ (g : Build) (b : Area) where
+  hidden-length : (op : Op) → Hidden g (λ f. length (area b f)) op
+  unfolding apply
+  hidden-length op = record { done = done op; torn = torn op }
+    where
+      done : (op : Op) (f : Flash) → length (area b (apply g op f)) ≡ length (area b f)
+      done (erase a i) f = length-store a b (i .0 * g .sector) (blank (g .sector)) f
+      done (write a u bs) f = length-store a b (u .0 * g .unit) bs f
+      done (copy c v a u) f = length-store a b (u .0 * g .unit) (unitOf g c v f) f
+
+      torn : (op : Op) (f f' : Flash) → Torn g op f f' → length (area b f') ≡ length (area b f)
+      torn op f f' (as-before e) = ap (λ x. length (area b x)) e
+      torn op f f' (half-erased {a} {i} bs q l e) = ap (λ x. length (area b x)) e ∙ length-store a b (i .0 * g .sector) bs f
+      torn op f f' (half-written {a} {u} bs q l e) = ap (λ x. length (area b x)) e ∙ length-store a b (u .0 * g .unit) bs f
+      torn op f f' (half-copied {a = a} {u = u} bs q l e) = ap (λ x. length (area b x)) e ∙ length-store a b (u .0 * g .unit) bs f
+
+  pub all-lengths : (ops : List Op) → All (Hidden g (λ f. length (area b f))) ops
+  all-lengths [] = none
+  all-lengths (op ∷ ops) = one (hidden-length op) (all-lengths ops)
 
 -- ---- the window that wipes a sector
 

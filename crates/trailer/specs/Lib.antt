@@ -2,3 +2,5 @@ pub mod Trailer
 pub mod PlaceLaws
 pub mod ReadLaws
 pub mod RunLaws
+pub mod MarkOrder
+pub mod MarkRun
