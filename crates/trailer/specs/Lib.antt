@@ -1,1 +1,4 @@
 pub mod Trailer
+pub mod PlaceLaws
+pub mod ReadLaws
+pub mod RunLaws

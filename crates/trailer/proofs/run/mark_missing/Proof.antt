@@ -1,0 +1,15 @@
+use borrow.Author.Needs.{needs}
+use Rattle.trailer.proofs.run.mark_missing.Statement.{statement}
+use Rattle.trailer.proofs.run.mark_missing.Tie as tie
+
+progress-mark-requires : tie.Need-progress-mark-requires
+progress-mark-requires c κs = search needs
+
+is-unset-requires : tie.Need-is-unset-requires
+is-unset-requires c κs = search needs
+
+returns : tie.Need-returns
+returns c = cc
+
+pub mark-missing-spec : {M : Type 1} → statement M
+mark-missing-spec = tie.close (tie.spec progress-mark-requires is-unset-requires returns)
