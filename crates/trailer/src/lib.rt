@@ -1,6 +1,7 @@
 ghost use mathlib.Core.Path.{_≡_};
 ghost use Rattle.trailer.specs.Trailer.{isGood, noMagic, isUnset, hasValue};
 
+pub mod asking;
 pub mod places;
 pub mod reading;
 pub mod run;

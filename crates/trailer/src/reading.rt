@@ -3,6 +3,7 @@ ghost use mathlib.Core.Path.{_≡_};
 ghost use Prim.Native.Nat.{_≤_};
 ghost use lib.ListN.{drop};
 ghost use Rattle.flash.specs.Geometry.{startOf};
+ghost use Rattle.flash.specs.Build.{slot0, scratch, trailerSector};
 ghost use Rattle.flash.specs.Base.{build};
 ghost use Rattle.flash.specs.Small.{Small};
 ghost use Rattle.trailer.specs.Trailer.{magicBytes, magicOf, markOf};
@@ -14,7 +15,7 @@ use flash::Offset;
 use flash::Sector;
 
 // The bytes of an area from a sector on: for its last sector, the bytes of that.
-pub fn from_sector(g: Geometry, area: &[u8], i: Sector) -> &[u8]
+fn from_sector(g: Geometry, area: &[u8], i: Sector) -> &[u8]
     requires { ⌜ Small g ⌝ }
     requires { ⌜ i .0 ≤ 128 ⌝ }
     ensures { λ r. ⌜ now r ≡ drop (startOf g i .0) (now (area .entry)) ⌝ }
@@ -22,6 +23,21 @@ pub fn from_sector(g: Geometry, area: &[u8], i: Sector) -> &[u8]
     let place = flash::start_of(g, i);
     let at = spans::least(place.0, area.len());
     &area[at..]
+}
+
+// The bytes of a slot's trailer sector, and of scratch's.
+pub fn slot_trailer(g: Geometry, slot: &[u8]) -> &[u8]
+    requires { ⌜ Small g ⌝ }
+    ensures { λ r. ⌜ now r ≡ drop (startOf g (trailerSector (build g) slot0) .0) (now (slot .entry)) ⌝ }
+{
+    from_sector(g, slot, Sector(g.sectors - 1))
+}
+
+pub fn scratch_trailer(g: Geometry, area: &[u8]) -> &[u8]
+    requires { ⌜ Small g ⌝ }
+    ensures { λ r. ⌜ now r ≡ drop (startOf g (trailerSector (build g) scratch) .0) (now (area .entry)) ⌝ }
+{
+    from_sector(g, area, Sector(1))
 }
 
 pub fn magic_bytes() -> [u8; 16]

@@ -1,3 +1,5 @@
+use mathlib.Core.Path.{ap, _∙_}
+use Rattle.trailer.specs.Trailer.{isUnset}
 use borrow.Author.Needs.{needs}
 use Rattle.trailer.proofs.run.mark_missing.Statement.{statement}
 use Rattle.trailer.proofs.run.mark_missing.Tie as tie
@@ -9,7 +11,7 @@ is-unset-requires : tie.Need-is-unset-requires
 is-unset-requires c κs = search needs
 
 returns : tie.Need-returns
-returns c = cc
+returns c = c .is-unset .ensures ∙ ap isUnset (c .before .progress-mark .ensures)
 
 pub mark-missing-spec : {M : Type 1} → statement M
 mark-missing-spec = tie.close (tie.spec progress-mark-requires is-unset-requires returns)

@@ -1,0 +1,21 @@
+use mathlib.Core.Path.{ap, _∙_}
+use native.Mathlib.Omega.{arith}
+use Rattle.flash.specs.declared.Offset.{Offset}
+use Rattle.flash.specs.Base.{base, build}
+use Rattle.trailer.specs.Trailer.{markOf}
+use borrow.Author.Needs.{needs}
+use Rattle.trailer.proofs.asking.ok_mark.Statement.{statement}
+use Rattle.trailer.proofs.asking.ok_mark.Tie as tie
+
+ok-place-requires : tie.Need-ok-place-requires
+ok-place-requires c κs = search needs
+
+mark-in-requires : tie.Need-mark-in-requires
+unfolding base
+mark-in-requires c κs = (search needs, omega (arith, ap (λ (o : Offset). o .0) (c .ok-place .ensures)))
+
+returns : tie.Need-returns
+returns c = c .mark-in .ensures ∙ ap (markOf (build (c .before .before .before .args .g)) (c .before .before .before .args .t .now)) (c .before .ok-place .ensures)
+
+pub ok-mark-spec : {M : Type 1} → statement M
+ok-mark-spec = tie.close (tie.spec ok-place-requires mark-in-requires returns)
