@@ -1,2 +1,4 @@
 pub mod Lists
 pub mod Decision
+pub mod Asked
+pub mod DecisionLaws
