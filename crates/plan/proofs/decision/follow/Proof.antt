@@ -14,7 +14,7 @@ returns c =
 returns-2 : tie.Need-returns-2
 returns-2 c =
     let a = c .before .before .args in
-    sym (too-few (build (a .g)) (a .c) (a .otherwise) (c .before .if1 .left) (c .if2 .taken))
+    sym (too-few (build (a .g)) (a .c) (a .otherwise) (c .before .if1 .left) (omega arith))
 
 mul-if3 : tie.Need-mul-if3
 mul-if3 c = search needs
