@@ -2,3 +2,5 @@ pub mod Lists
 pub mod Decision
 pub mod Examples
 pub mod Order
+pub mod Asked
+pub mod DecisionLaws

@@ -1,0 +1,26 @@
+use mathlib.Core.Path.{sym, _∙_}
+use Rattle.plan.specs.Decision.{stepA}
+use borrow.Author.Needs.{needs}
+use Rattle.plan.proofs.decision.step_a.Statement.{statement}
+use Rattle.plan.proofs.decision.step_a.Tie as tie
+
+ok-unset-requires : tie.Need-ok-unset-requires
+ok-unset-requires c κs = search needs
+
+returns : tie.Need-returns
+unfolding stepA
+returns c = rw (sym (c .before .ok-unset .ensures) ∙ c .if1 .taken)
+
+ok-set-requires : tie.Need-ok-set-requires
+ok-set-requires c κs = search needs
+
+returns-2 : tie.Need-returns-2
+unfolding stepA
+returns-2 c = rw (sym (c .before .before .before .ok-unset .ensures) ∙ c .before .before .if1 .left, sym (c .before .ok-set .ensures) ∙ c .if2 .taken)
+
+returns-3 : tie.Need-returns-3
+unfolding stepA
+returns-3 c = rw (sym (c .before .before .before .ok-unset .ensures) ∙ c .before .before .if1 .left, sym (c .before .ok-set .ensures) ∙ c .if2 .left)
+
+pub step-a-spec : {M : Type 1} → statement M
+step-a-spec = tie.close (tie.spec ok-unset-requires returns ok-set-requires returns-2 returns-3)

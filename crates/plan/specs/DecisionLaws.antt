@@ -1,0 +1,75 @@
+-- Laws for the code of B: the number of moves of the base, and B's answer by tests on the number of marks.
+use mathlib.Core.Path.{_≡_, refl}
+use mathlib.Core.List.{List}
+use mathlib.Core.Bool.{Bool, true, false, _&&_}
+use Prim.Native.Nat.{ℕ, zero, suc, _+_, _*_, _-_, _≤_, _<_}
+use native.Mathlib.Omega.{arith}
+use lib.ListN.{length}
+use lib.Dec.{eqb, leb}
+use borrow.Author.Tests.{eq-eqb, ne-eqb, le-leb, lt-leb}
+use Rattle.spans.specs.Choice.{pick}
+use Rattle.flash.specs.declared.Geometry.{Geometry}
+use Rattle.flash.specs.Build.{Build}
+use Rattle.flash.specs.Base.{threeMoves, allMoves, base, build}
+use Rattle.flash.specs.Small.{Small}
+use Rattle.trailer.specs.Trailer.{okAt, doneAt, magicOf, isGood, noMagic, markOf, isUnset, hasValue, legal}
+use Rattle.plan.specs.declared.Course.{Course}
+use Rattle.plan.specs.Decision.{continue}
+
+-- ---- the tests of B and C by name
+
+abbrev pub marksRead : Build → List ℕ → Bool
+marksRead g t0 = isGood (magicOf g t0) && isUnset (markOf g t0 (doneAt g))
+
+abbrev pub testDue : Build → List ℕ → Bool
+testDue g t1 = isGood (magicOf g t1) && isUnset (markOf g t1 (okAt g))
+
+abbrev pub permanentDue : Build → List ℕ → Bool
+permanentDue g t1 = isGood (magicOf g t1) && hasValue 1 (markOf g t1 (okAt g))
+
+abbrev pub revertDue : Build → List ℕ → List ℕ → Bool
+revertDue g t0 t1 =
+    isGood (magicOf g t0) && (isUnset (markOf g t0 (okAt g)) && (hasValue 1 (markOf g t0 (doneAt g)) && noMagic (magicOf g t1)))
+
+-- ---- the run of marks
+
+length-moves : (m : ℕ) → length (allMoves m) ≡ 3 * m
+unfolding threeMoves allMoves
+length-moves zero = refl
+length-moves (suc m) = omega (arith, length-moves m)
+
+-- "c from 3 to 3n"
+pub most-marks : (g : Geometry) → Small g → 3 + length (build g .moves) ≡ 3 * g .sectors
+unfolding base
+most-marks g small = omega (arith, length-moves (g .sectors - 1))
+
+-- B's answer where the run is legal
+unfoldable pub followed : Build → ℕ → Course → Course
+followed g c otherwise = pick (eqb c 0) otherwise (pick (leb 3 c && leb c (3 + length (g .moves))) (Course.Resume c) Course.Damage)
+
+pub continue-legal : (g : Build) (t0 : List ℕ) (c : ℕ) (otherwise : Course) → legal g t0 c 0 (3 * g .sectors) ≡ true
+    → continue g t0 c otherwise ≡ followed g c otherwise
+unfolding continue followed
+continue-legal g t0 c otherwise h = rw h
+
+pub continue-damage : (g : Build) (t0 : List ℕ) (c : ℕ) (otherwise : Course) → legal g t0 c 0 (3 * g .sectors) ≡ false
+    → continue g t0 c otherwise ≡ Course.Damage
+unfolding continue
+continue-damage g t0 c otherwise h = rw h
+
+module _ (g : Build) (c : ℕ) (otherwise : Course) where
+  pub none-marked : c ≡ 0 → followed g c otherwise ≡ otherwise
+  unfolding followed
+  none-marked h = rw (eq-eqb c 0 h)
+
+  pub too-few : (c ≡ 0 → ⊥) → c < 3 → followed g c otherwise ≡ Course.Damage
+  unfolding followed
+  too-few h l = rw (ne-eqb c 0 h, lt-leb 3 c l)
+
+  pub marks-enough : (c ≡ 0 → ⊥) → 3 ≤ c → c ≤ 3 + length (g .moves) → followed g c otherwise ≡ Course.Resume c
+  unfolding followed
+  marks-enough h l m = rw (ne-eqb c 0 h, le-leb 3 c l, le-leb c (3 + length (g .moves)) m)
+
+  pub too-many : (c ≡ 0 → ⊥) → 3 ≤ c → 3 + length (g .moves) < c → followed g c otherwise ≡ Course.Damage
+  unfolding followed
+  too-many h l m = rw (ne-eqb c 0 h, le-leb 3 c l, lt-leb c (3 + length (g .moves)) m)
