@@ -1,0 +1,166 @@
+//! An independent implementation of document 01 (docs/ and READINGS.md decide, not the proved source), compared with the archive through
+//! the C boundary. `tests/model/run` builds and starts it; see there for the arguments.
+
+mod compare;
+mod cuts;
+mod edges;
+mod flash;
+mod image;
+mod lists;
+mod loader;
+mod make;
+mod marking;
+mod random;
+mod reached;
+mod samples;
+mod sha256;
+mod states;
+mod subject;
+mod trailer;
+
+use compare::Outcome;
+use cuts::{Harm, HARMS};
+use flash::Geometry;
+
+/// How much a mode does.
+struct Size {
+    states: u64,
+    large_states: u64,
+    images: u64,
+    chains: u64,
+    /// sectors per slot of the exchanges that are cut at every point
+    sectors: &'static [usize],
+    harms: &'static [Harm],
+    /// each first cut whose number divides by this is followed by every second cut
+    second_cuts_every: Option<usize>,
+}
+
+const SHORT: Size = Size {
+    states: 40_000,
+    large_states: 60,
+    images: 40_000,
+    chains: 3_000,
+    sectors: &[2],
+    harms: &[Harm::Clean, Harm::Arbitrary],
+    second_cuts_every: None,
+};
+
+const LONG: Size = Size {
+    states: 300_000,
+    large_states: 600,
+    images: 300_000,
+    chains: 40_000,
+    sectors: &[2, 3, 5],
+    harms: &HARMS,
+    second_cuts_every: Some(1),
+};
+
+/// The smallest geometry of each width.
+fn smallest(unit: usize, sectors: usize) -> Geometry {
+    Geometry { unit, sector: 384 * unit + 32, sectors }
+}
+
+/// The seed of one case: from a part, and a number in it.
+fn seed(base: u64, part: u64, number: u64) -> u64 {
+    random::Random(base ^ part << 56 ^ number).next()
+}
+
+fn each(what: &str, seeds: impl Iterator<Item = u64>, case: impl Fn(u64) -> Outcome) -> Outcome {
+    let mut sum = 0;
+    for seed in seeds {
+        sum += case(seed).map_err(|problem| format!("{what}, seed {seed}: {problem}\n  again: tests/model/run {what} {seed}"))?;
+    }
+    Ok(sum)
+}
+
+fn every_cut(seed: u64, size: &Size) -> Outcome {
+    let mut sum = 0;
+    for unit in [1, 2, 4, 8] {
+        for sectors in size.sectors {
+            for kind in 0..3 {
+                sum += cuts::every_cut(seed, smallest(unit, *sectors), kind, size.harms)?;
+            }
+        }
+    }
+    Ok(sum)
+}
+
+fn second_cuts(seed: u64, every: usize) -> Outcome {
+    let mut sum = 0;
+    for unit in [1, 2, 4, 8] {
+        // a revert of two sectors has the longest list
+        let longest = 3 * (384 + 32 / unit + 2) + 10 + 32 / unit;
+        for first in (0..longest).step_by(every) {
+            sum += cuts::every_second_cut(seed.wrapping_add(first as u64), smallest(unit, 2), first)?;
+        }
+    }
+    Ok(sum)
+}
+
+fn chain(seed: u64) -> Outcome {
+    let mut random = random::Random(seed);
+    let geometry = smallest(random.pick(&[1, 2, 4, 8]), random.pick(&[2, 2, 3, 4]));
+    cuts::repeated(random.next(), geometry)
+}
+
+fn compare_all(size: &Size, base: u64) -> Result<String, String> {
+    let edges = edges::run();
+    reached::clear();
+    let seeds = |part: u64, count: u64| (0..count).map(move |number| seed(base, part, number));
+    let digests = compare::digests()?;
+    let images = each("image", seeds(1, size.images), compare::one_image)?;
+    let states = each("state", seeds(2, size.states), |seed| compare::one_state(seed, false))?;
+    let large = each("large", seeds(3, size.large_states), |seed| compare::one_state(seed, true))?;
+    let branches = reached::verdict()?;
+    let cuts = each("cuts", seeds(4, 1), |seed| every_cut(seed, size))?;
+    let chains = each("chain", seeds(5, size.chains), chain)?;
+    let pairs = match size.second_cuts_every {
+        Some(every) => each("pairs", seeds(6, 1), |seed| second_cuts(seed, every))?,
+        None => 0,
+    };
+    reached::verdict()?;
+    let total = size.states + size.large_states;
+    Ok(format!(
+        "{edges} edges, {total} states ({} calls), {images} image calls, {digests} digests, {branches} branches all reached, \
+         {cuts} cuts taken up, {} chains of {chains} cuts, {pairs} pairs of cuts: no difference",
+        states + large,
+        size.chains
+    ))
+}
+
+fn main() {
+    let arguments: Vec<String> = std::env::args().skip(1).collect();
+    let number = |at: usize| arguments.get(at).map(|text| text.parse::<u64>().expect("a whole number"));
+    let mode = arguments.first().map_or("short", String::as_str);
+    let again = || number(1).expect("the seed that was printed");
+    let result = match mode {
+        "short" | "long" if cfg!(not(archive)) => Err("this program was built without the archive".into()),
+        "short" | "self" => compare_all(&SHORT, number(1).unwrap_or(2026)),
+        "long" => compare_all(&LONG, number(1).unwrap_or(2027)),
+        "edges" => Ok(format!("{} edges of document 01 hold in the model", edges::run())),
+        "state" => compare::one_state(again(), false).map(|calls| format!("{calls} calls")),
+        "large" => compare::one_state(again(), true).map(|calls| format!("{calls} calls")),
+        "image" => compare::one_image(again()).map(|calls| format!("{calls} calls")),
+        "cuts" => every_cut(again(), &LONG).map(|cuts| format!("{cuts} cuts")),
+        "chain" => chain(again()).map(|cuts| format!("{cuts} cuts")),
+        "pairs" => second_cuts(again(), 1).map(|cuts| format!("{cuts} pairs")),
+        "dumps" => {
+            let folder = arguments.get(1).map_or("dumps", String::as_str);
+            samples::write_dumps(std::path::Path::new(folder)).map(|()| format!("written to {folder}")).map_err(|e| e.to_string())
+        }
+        "example" => return samples::print_example(),
+        "branches" => {
+            let result = compare_all(&SHORT, number(1).unwrap_or(2026));
+            reached::print();
+            result
+        }
+        _ => Err(format!("no such mode: {mode}")),
+    };
+    match result {
+        Ok(line) => println!("model against {}: {line}", subject::NAME),
+        Err(problem) => {
+            eprintln!("model against {}: FAILED: {problem}", subject::NAME);
+            std::process::exit(1);
+        }
+    }
+}

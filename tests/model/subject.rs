@@ -1,0 +1,211 @@
+//! What is compared with the model: the functions of `include/scale.h` in the archive. Each area is lent from the middle of a longer
+//! buffer, at any alignment, and the guard bytes around it are looked at after each call.
+//! Built without the archive (no `--cfg archive`), the model stands in for it: that tries this program and says nothing of the archive.
+
+use crate::flash::{Flash, Geometry};
+use crate::loader::{Answer, Marked};
+
+#[derive(Clone, Copy, PartialEq, Debug)]
+#[repr(C)]
+pub struct RawAnswer {
+    pub done: u64,
+    pub found: u64,
+    pub count: u64,
+    pub end: u64,
+    pub offset: u64,
+    pub refusal: u64,
+    pub cause: u64,
+}
+
+#[derive(Clone, Copy, PartialEq, Debug)]
+#[repr(C)]
+pub struct RawMarked {
+    pub refusal: u64,
+    pub count: u64,
+}
+
+/// The model's answer in the numbers of the C boundary.
+pub fn raw(answer: Answer) -> RawAnswer {
+    use crate::loader::End;
+    let (end, offset, refusal, cause) = match answer.end {
+        End::Boot(offset) => (0, offset, 0, 0),
+        End::Stopped => (1, 0, 0, 0),
+        End::Refused(number, cause) => (2, 0, number, cause),
+    };
+    RawAnswer { done: answer.done as u64, found: answer.found, count: answer.count, end, offset, refusal, cause }
+}
+
+pub fn raw_marked(marked: Marked) -> RawMarked {
+    RawMarked { refusal: marked.refusal, count: marked.count }
+}
+
+const GUARD: usize = 64;
+
+fn guard_byte(index: usize) -> u8 {
+    0xa5 ^ (index as u8).wrapping_mul(29)
+}
+
+/// Three areas as they are lent.
+pub struct Lent {
+    buffers: [Vec<u8>; 3],
+    starts: [usize; 3],
+    lengths: [usize; 3],
+}
+
+impl Lent {
+    pub fn new() -> Lent {
+        Lent { buffers: [const { Vec::new() }; 3], starts: [0; 3], lengths: [0; 3] }
+    }
+
+    /// Copy the flash in, each area shifted by some bytes.
+    pub fn load(&mut self, flash: &Flash, shift: usize) {
+        for index in 0..3 {
+            let area = &flash.areas[index];
+            let start = GUARD + (shift >> (4 * index)) % 16;
+            let buffer = &mut self.buffers[index];
+            buffer.clear();
+            buffer.extend((0..start).map(guard_byte));
+            buffer.extend_from_slice(area);
+            buffer.extend((0..GUARD).map(|after| guard_byte(start + after)));
+            (self.starts[index], self.lengths[index]) = (start, area.len());
+        }
+    }
+
+    pub fn area(&self, index: usize) -> &[u8] {
+        &self.buffers[index][self.starts[index]..self.starts[index] + self.lengths[index]]
+    }
+
+    pub fn area_mut(&mut self, index: usize) -> &mut [u8] {
+        &mut self.buffers[index][self.starts[index]..self.starts[index] + self.lengths[index]]
+    }
+
+    fn guards_stand(&self) -> bool {
+        (0..3).all(|index| {
+            let (start, end) = (self.starts[index], self.starts[index] + self.lengths[index]);
+            let buffer = &self.buffers[index];
+            buffer[..start].iter().enumerate().all(|(at, byte)| *byte == guard_byte(at))
+                && buffer[end..].iter().enumerate().all(|(at, byte)| *byte == guard_byte(start + at))
+        })
+    }
+
+    /// Nothing, or which area differs and where first.
+    pub fn difference(&self, flash: &Flash) -> Option<String> {
+        if !self.guards_stand() {
+            return Some("a byte outside the areas was changed".into());
+        }
+        for (index, name) in ["slot 0", "slot 1", "scratch"].into_iter().enumerate() {
+            let (got, wanted) = (self.area(index), &flash.areas[index][..]);
+            if got != wanted {
+                let at = got.iter().zip(wanted).position(|(a, b)| a != b).unwrap_or(got.len().min(wanted.len()));
+                return Some(format!("{name} differs first at byte {at}: got {:02x?}, wanted {:02x?}", got.get(at), wanted.get(at)));
+            }
+        }
+        None
+    }
+}
+
+#[cfg(archive)]
+mod calls {
+    use super::*;
+
+    pub const NAME: &str = "the archive";
+
+    unsafe extern "C" {
+        fn scale_sha256(message: *const u8, length: usize, digest: *mut u8);
+        fn scale_check_image(image: *const u8, length: usize) -> u32;
+        fn scale_power_up(
+            unit: usize, sector: usize, sectors: usize, slot0: *mut u8, slot0_length: usize, slot1: *mut u8, slot1_length: usize,
+            scratch: *mut u8, scratch_length: usize, allowance: u64,
+        ) -> RawAnswer;
+        fn scale_full_start(
+            unit: usize, sector: usize, sectors: usize, slot0: *mut u8, slot0_length: usize, slot1: *mut u8, slot1_length: usize,
+            scratch: *mut u8, scratch_length: usize, allowance: u64, check_slot0: bool,
+        ) -> RawAnswer;
+        fn scale_mark(
+            unit: usize, sector: usize, sectors: usize, slot0: *mut u8, slot0_length: usize, slot1: *mut u8, slot1_length: usize,
+            scratch: *mut u8, scratch_length: usize, permanent: bool,
+        ) -> RawMarked;
+        fn scale_confirm(
+            unit: usize, sector: usize, sectors: usize, slot0: *mut u8, slot0_length: usize, slot1: *mut u8, slot1_length: usize,
+            scratch: *mut u8, scratch_length: usize,
+        ) -> RawMarked;
+    }
+
+    impl Lent {
+        fn pointers(&mut self) -> [(*mut u8, usize); 3] {
+            std::array::from_fn(|index| (self.area_mut(index).as_mut_ptr(), self.lengths[index]))
+        }
+
+        pub fn power_up(&mut self, g: Geometry, allowance: u64) -> RawAnswer {
+            let [a, b, c] = self.pointers();
+            unsafe { scale_power_up(g.unit, g.sector, g.sectors, a.0, a.1, b.0, b.1, c.0, c.1, allowance) }
+        }
+
+        pub fn full_start(&mut self, g: Geometry, allowance: u64, check_slot0: bool) -> RawAnswer {
+            let [a, b, c] = self.pointers();
+            unsafe { scale_full_start(g.unit, g.sector, g.sectors, a.0, a.1, b.0, b.1, c.0, c.1, allowance, check_slot0) }
+        }
+
+        pub fn mark(&mut self, g: Geometry, permanent: bool) -> RawMarked {
+            let [a, b, c] = self.pointers();
+            unsafe { scale_mark(g.unit, g.sector, g.sectors, a.0, a.1, b.0, b.1, c.0, c.1, permanent) }
+        }
+
+        pub fn confirm(&mut self, g: Geometry) -> RawMarked {
+            let [a, b, c] = self.pointers();
+            unsafe { scale_confirm(g.unit, g.sector, g.sectors, a.0, a.1, b.0, b.1, c.0, c.1) }
+        }
+    }
+
+    pub fn digest(message: &[u8]) -> [u8; 32] {
+        let mut digest = [0; 32];
+        unsafe { scale_sha256(message.as_ptr(), message.len(), digest.as_mut_ptr()) };
+        digest
+    }
+
+    pub fn check_image(image: &[u8]) -> u32 {
+        unsafe { scale_check_image(image.as_ptr(), image.len()) }
+    }
+}
+
+#[cfg(not(archive))]
+mod calls {
+    use super::*;
+
+    pub const NAME: &str = "NO ARCHIVE, the model itself";
+
+    impl Lent {
+        fn with<T>(&mut self, work: impl FnOnce(&mut Flash) -> T) -> T {
+            let mut flash = Flash { areas: std::array::from_fn(|index| self.area(index).to_vec()) };
+            let answer = work(&mut flash);
+            (0..3).for_each(|index| self.area_mut(index).copy_from_slice(&flash.areas[index]));
+            answer
+        }
+
+        pub fn power_up(&mut self, g: Geometry, allowance: u64) -> RawAnswer {
+            self.with(|flash| raw(g.power_up(flash, allowance, false)))
+        }
+
+        pub fn full_start(&mut self, g: Geometry, allowance: u64, check_slot0: bool) -> RawAnswer {
+            self.with(|flash| raw(g.power_up(flash, allowance, check_slot0)))
+        }
+
+        pub fn mark(&mut self, g: Geometry, permanent: bool) -> RawMarked {
+            self.with(|flash| raw_marked(g.mark_slot1(flash, permanent)))
+        }
+
+        pub fn confirm(&mut self, g: Geometry) -> RawMarked {
+            self.with(|flash| raw_marked(g.confirm(flash)))
+        }
+    }
+
+    pub fn digest(message: &[u8]) -> [u8; 32] {
+        crate::sha256::digest(message)
+    }
+
+    pub fn check_image(image: &[u8]) -> u32 {
+        crate::image::check(image).err().unwrap_or(0) as u32
+    }
+}
+
+pub use calls::{check_image, digest, NAME};
