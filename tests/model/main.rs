@@ -2,6 +2,7 @@
 //! the C boundary. `tests/model/run` builds and starts it; see there for the arguments.
 
 mod compare;
+mod crash;
 mod cuts;
 mod edges;
 mod flash;
@@ -65,9 +66,10 @@ fn seed(base: u64, part: u64, number: u64) -> u64 {
     random::Random(base ^ part << 56 ^ number).next()
 }
 
-fn each(what: &str, seeds: impl Iterator<Item = u64>, case: impl Fn(u64) -> Outcome) -> Outcome {
+fn each(what: &'static str, seeds: impl Iterator<Item = u64>, case: impl Fn(u64) -> Outcome) -> Outcome {
     let mut sum = 0;
     for seed in seeds {
+        crash::now(what, seed);
         sum += case(seed).map_err(|problem| format!("{what}, seed {seed}: {problem}\n  again: tests/model/run {what} {seed}"))?;
     }
     Ok(sum)
@@ -129,6 +131,7 @@ fn compare_all(size: &Size, base: u64) -> Result<String, String> {
 }
 
 fn main() {
+    crash::install();
     let arguments: Vec<String> = std::env::args().skip(1).collect();
     let number = |at: usize| arguments.get(at).map(|text| text.parse::<u64>().expect("a whole number"));
     let mode = arguments.first().map_or("short", String::as_str);

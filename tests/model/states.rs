@@ -127,9 +127,12 @@ impl Geometry {
             flash.areas.iter_mut().for_each(|area| random.fill(area));
         }
         let room = self.data_bytes();
+        let slot0_too = random.percent(75);
         for slot in [Area::Slot0, Area::Slot1] {
-            let image = right_image(random, room);
-            flash.area_mut(slot)[..image.len()].copy_from_slice(&image);
+            if slot == Area::Slot1 || slot0_too {
+                let image = right_image(random, room);
+                flash.area_mut(slot)[..image.len()].copy_from_slice(&image);
+            }
         }
         self.set_magic(random, &mut flash, Area::Scratch, 0, 60);
         self.set_magic(random, &mut flash, Area::Slot0, 60, 20);
@@ -206,37 +209,39 @@ impl Geometry {
     }
 }
 
-/// A geometry or a length that refusal 1 is for. The areas are small: nothing of them may be touched.
+/// A geometry or a length that refusal 1 is for.
 pub fn wrong(random: &mut Random) -> (Geometry, Flash) {
     let mut geometry = geometry(random, false);
     let mut flash = geometry.state(random);
-    match random.below(12) {
-        0 => geometry.unit = random.pick(&[0, 3, 5, 6, 7, 9, 16, 32, usize::MAX, 1 << 63]),
+    match random.below(10) {
+        0 => {
+            geometry.unit = random.pick(&[0, 3, 5, 6, 7, 9, 16, 32, usize::MAX, 1 << 63]);
+            if (1..=32).contains(&geometry.unit) {
+                // a sector that would do for this unit
+                geometry.sector = (384 * geometry.unit + 32).next_multiple_of(geometry.unit);
+            }
+        }
         1 => geometry.sector = random.pick(&[0, 1, 31, usize::MAX, 1 << 63, 65_537, 65_544, 65_536 * 2, 1 << 32]),
-        2 => geometry.sectors = random.pick(&[0, 1, 129, 130, 256, usize::MAX, 1 << 63, (1 << 63) + 2]),
-        3 => geometry.sector = 384 * geometry.unit + 32 - geometry.unit,
-        4 => geometry.sector += 1 + random.below(geometry.unit.max(2) - 1),
-        5 => {
-            geometry.sector = 65_536 + geometry.unit;
-            geometry.sectors = random.pick(&[2, 1 << 48]);
-        }
-        6 => {
-            // lengths that fit, sectors that do not
-            geometry.sectors = random.pick(&[1, 129]);
-            let slot = geometry.sectors * geometry.sector;
-            flash.areas[0].resize(slot, 0xff);
-            flash.areas[1].resize(slot, 0xff);
-        }
-        7 => {
-            // n times s wraps to the right length
-            geometry.sectors = (1 << 63) + geometry.sectors;
-        }
-        _ => {
-            let area = random.below(3);
-            let length = flash.areas[area].len();
-            let other = random.pick(&[length - 1, length + 1, 0, length * 2, length - geometry.sector, length + geometry.sector]);
-            flash.areas[area].resize(other, 0xff);
-        }
+        2 => geometry.sectors = random.pick(&[0, 1, 129, 130, 256, usize::MAX, 1 << 63]),
+        // n times s wraps to the right length
+        3 => geometry.sectors |= 1 << 63,
+        4 => geometry.sector = 384 * geometry.unit + 32 - geometry.unit,
+        5 => geometry.sector += 1 + random.below(geometry.unit.max(2) - 1),
+        6 => geometry.sector = 65_536 + geometry.unit,
+        _ => return (geometry, wrong_length(random, geometry, flash)),
+    }
+    if geometry.sectors <= 256 && geometry.sector <= 131_072 && random.percent(75) {
+        // lengths that fit, so that nothing else is wrong
+        let slot = geometry.sectors * geometry.sector;
+        [slot, slot, 2 * geometry.sector].into_iter().zip(&mut flash.areas).for_each(|(length, area)| area.resize(length, 0xff));
     }
     (geometry, flash)
+}
+
+fn wrong_length(random: &mut Random, geometry: Geometry, mut flash: Flash) -> Flash {
+    let area = random.below(3);
+    let length = flash.areas[area].len();
+    let other = random.pick(&[length - 1, length + 1, 0, length * 2, length - geometry.sector, length + geometry.sector]);
+    flash.areas[area].resize(other, 0xff);
+    flash
 }
