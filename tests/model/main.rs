@@ -140,16 +140,16 @@ fn main() {
         "short" | "long" if cfg!(not(archive)) => Err("this program was built without the archive".into()),
         "short" | "self" => compare_all(&SHORT, number(1).unwrap_or(2026)),
         "long" => compare_all(&LONG, number(1).unwrap_or(2027)),
-        "edges" => Ok(format!("{} edges of document 01 hold in the model", edges::run())),
         "state" => compare::one_state(again(), false).map(|calls| format!("{calls} calls")),
         "large" => compare::one_state(again(), true).map(|calls| format!("{calls} calls")),
         "image" => compare::one_image(again()).map(|calls| format!("{calls} calls")),
         "cuts" => every_cut(again(), &LONG).map(|cuts| format!("{cuts} cuts")),
         "chain" => chain(again()).map(|cuts| format!("{cuts} cuts")),
         "pairs" => second_cuts(again(), 1).map(|cuts| format!("{cuts} pairs")),
+        "edges" => return println!("{} edges of document 01 hold in the model", edges::run()),
         "dumps" => {
-            let folder = arguments.get(1).map_or("dumps", String::as_str);
-            samples::write_dumps(std::path::Path::new(folder)).map(|()| format!("written to {folder}")).map_err(|e| e.to_string())
+            let folder = std::path::Path::new(arguments.get(1).map_or("dumps", String::as_str));
+            return samples::write_dumps(folder).expect("the folder can be written");
         }
         "example" => return samples::print_example(),
         "branches" => {

@@ -26,7 +26,8 @@ pub fn line(answer: &Answer) -> String {
 /// Two firmwares; slot 1's is marked for a test.
 fn start() -> Flash {
     let mut flash = SMALL.erased();
-    let (old, new) = (image(b"deck scale firmware 1.4.0, the one that runs"), image(b"deck scale firmware 1.5.0, the one that was sent"));
+    let firmware = |version: &str| image(format!("deck scale firmware {version} {}", "code ".repeat(82)).as_bytes());
+    let (old, new) = (firmware("1.4.0"), firmware("1.5.0"));
     flash.areas[0][..old.len()].copy_from_slice(&old);
     flash.areas[1][..new.len()].copy_from_slice(&new);
     assert_eq!(SMALL.mark_slot1(&mut flash, false).refusal, 0);

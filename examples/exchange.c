@@ -1,0 +1,91 @@
+/*
+ * A firmware update from sending to confirming, with power failures: a new image is put into slot 1 and marked for a test, the scale
+ * starts again and again while its power lasts for 700 operations only, boots the new firmware, which confirms itself.
+ *
+ *   cc -std=c99 -Iinclude examples/exchange.c target/staticlib/libscale.a -o exchange
+ */
+#include <stdio.h>
+#include <string.h>
+
+#include "scale.h"
+
+enum { UNIT = 4, SECTOR = 2048, SECTORS = 3, SLOT = SECTORS * SECTOR, DATA = SLOT - SECTOR, HEADER = 32 };
+
+static uint8_t slot0[SLOT], slot1[SLOT], scratch[2 * SECTOR];
+
+static const char *const done_words[] = {"none", "test", "permanent", "revert", "resumed", "cleared"};
+
+static void put_number(uint8_t *at, unsigned bytes, uint32_t number)
+{
+    for (unsigned i = 0; i < bytes; i++)
+        at[i] = (uint8_t)(number >> (8 * i));
+}
+
+/* An image with this text as its body: header, body, and one record of type 1 with the digest of both. Its size in bytes. */
+static size_t put_image(uint8_t *slot, const char *body)
+{
+    size_t body_size = strlen(body), covered = HEADER + body_size;
+    uint8_t *record = slot + covered;
+    memset(slot, 0, HEADER);
+    put_number(slot, 4, 0x96f3b83c);           /* magic */
+    put_number(slot + 4, 2, 4 + 32);           /* size of the trailing records */
+    put_number(slot + 8, 2, HEADER);           /* header size */
+    put_number(slot + 12, 4, (uint32_t)body_size);
+    memcpy(slot + HEADER, body, body_size);
+    put_number(record, 2, 1);                  /* type 1, pad byte */
+    put_number(record + 2, 2, 32);             /* length */
+    scale_sha256(slot, covered, record + 4);
+    return covered + 4 + 32;
+}
+
+/* Print a start's answer; true if another start is due. */
+static bool print_answer(const char *what, scale_answer answer)
+{
+    printf("%s: %s, %llu marks found, %llu operations, ", what, done_words[answer.done], (unsigned long long)answer.found,
+           (unsigned long long)answer.count);
+    switch (answer.end) {
+    case SCALE_END_BOOT:
+        printf("boot at %llu\n", (unsigned long long)answer.offset);
+        return false;
+    case SCALE_END_STOPPED:
+        printf("power failed\n");
+        return true;
+    default:
+        printf("refused %llu\n", (unsigned long long)answer.refusal);
+        return false;
+    }
+}
+
+static void print_marked(const char *what, scale_marked marked)
+{
+    printf("%s: refusal %llu, %llu operations\n", what, (unsigned long long)marked.refusal, (unsigned long long)marked.count);
+}
+
+int main(void)
+{
+    char what[32];
+    bool again = true;
+
+    memset(slot0, 0xff, sizeof slot0);
+    memset(slot1, 0xff, sizeof slot1);
+    memset(scratch, 0xff, sizeof scratch);
+    printf("geometry: write unit %d, sector %d, %d sectors per slot\n", UNIT, SECTOR, SECTORS);
+
+    put_image(slot0, "firmware 1");
+    size_t size = put_image(slot1, "firmware 2");
+    printf("slot 1: image of %u bytes, check %u\n", (unsigned)size, (unsigned)scale_check_image(slot1, DATA));
+
+    print_marked("mark for a test", scale_mark(UNIT, SECTOR, SECTORS, slot0, SLOT, slot1, SLOT, scratch, 2 * SECTOR, false));
+
+    for (unsigned start = 1; again; start++) {
+        snprintf(what, sizeof what, "start %u", start);
+        again = print_answer(what, scale_power_up(UNIT, SECTOR, SECTORS, slot0, SLOT, slot1, SLOT, scratch, 2 * SECTOR, 700));
+    }
+
+    printf("slot 0 runs: %.10s\n", (const char *)slot0 + HEADER);
+    print_marked("confirm", scale_confirm(UNIT, SECTOR, SECTORS, slot0, SLOT, slot1, SLOT, scratch, 2 * SECTOR));
+
+    print_answer("checked start",
+                 scale_full_start(UNIT, SECTOR, SECTORS, slot0, SLOT, slot1, SLOT, scratch, 2 * SECTOR, UINT64_MAX, true));
+    return 0;
+}

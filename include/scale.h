@@ -1,0 +1,169 @@
+/*
+ * Scale loader: the C boundary.
+ *
+ * Link with libscale.a (x86-64, System V). The library keeps no state, allocates nothing, calls nothing but memcpy and memset, and
+ * carries nothing over from one call to the next but the bytes of the areas. Every function is total: there is no argument value that
+ * is undefined, except that each pointer must be good for its length (see "Memory" below).
+ *
+ * The flash
+ * ---------
+ * Three areas are lent to each call as plain memory: slot 0 (the firmware that boots), slot 1 (the firmware that was sent) and scratch.
+ * A geometry is three numbers:
+ *
+ *   unit     bytes in a write unit, w: 1, 2, 4 or 8
+ *   sector   bytes in a sector, s: a multiple of w, from 384 * w + 32 to 65536
+ *   sectors  sectors in a slot, n: 2 to 128
+ *
+ * Slot 0 and slot 1 are exactly n * s bytes each and scratch exactly 2 * s; any other length, longer ones too, is refusal 1. The last
+ * sector of each area is its trailer sector. The first n - 1 sectors of a slot hold its image.
+ *
+ * An operation is one of two: erase one sector (all bytes become 0xff), or write one unit whose bytes are all 0xff. Counts and
+ * allowances are numbers of operations.
+ *
+ * Memory
+ * ------
+ * - slot0, slot1 and scratch must not overlap, not even in part: the library is proved for three distinct areas.
+ * - message and digest must not overlap either.
+ * - Each pointer must be readable for its length, and writable where it is not const. It needs no alignment. It must not be NULL,
+ *   also where the length is 0 (nothing is read then).
+ * - While a call runs nobody else writes to what is lent. Calls on different memory may run at the same time.
+ *
+ * Refusals
+ * --------
+ *   No.  When                                                      The areas then hold
+ *   1    the geometry, or the length of an area, is wrong          what they held before
+ *   2    damage: scratch's magic is good and its image ok is       what they held before
+ *        neither unset nor 01; or slot 0 says that an exchange is
+ *        under way and its progress marks are no legal run
+ *   3    slot 0 cannot be booted: its header magic is wrong, its   the counted operations are done
+ *        header size is under 32, or its sizes sum to more than
+ *        the slot's data bytes (causes 1 and 2)
+ *   4    scale_full_start with check_slot0: slot 0 is no image;    the counted operations are done
+ *        the cause, 3, 4 or 5, is in the answer
+ *   5    scale_mark: image ok or magic of slot 1 is not unset      what they held before
+ *   6    scale_mark, scale_confirm: an exchange is under way       what they held before
+ *   7    scale_confirm: slot 0 is not a firmware on trial (magic   what they held before
+ *        good, copy done 01, image ok unset)
+ *   8    a unit to be written is not erased (no flash is known     the counted operations are done
+ *        that gives it)
+ *
+ * They are asked in this order: starting 1, 2, then as things come; marking 1, 2, 6, 5; confirming 1, 2, 6, 7.
+ *
+ * Causes
+ * ------
+ *   1    the header's magic is wrong
+ *   2    fewer than 32 bytes (asked before cause 1), header size under 32, or the sizes sum to more than the bytes given
+ *   3    the trailing records do not fill their area exactly
+ *   4    not exactly one digest record (type 1), or its length is not 32
+ *   5    the digest of header and body differs from the recorded one
+ */
+#ifndef SCALE_H
+#define SCALE_H
+
+#include <stdbool.h>
+#include <stddef.h>
+#include <stdint.h>
+
+#ifdef __cplusplus
+extern "C" {
+#endif
+
+/* What a start did: the list of operations in force, even if the allowance let none of them happen. */
+enum {
+    SCALE_DONE_NONE = 0,      /* nothing was due; also with refusals 1 and 2 */
+    SCALE_DONE_TEST = 1,      /* the images were exchanged, on trial: without scale_confirm the next start reverts */
+    SCALE_DONE_PERMANENT = 2, /* the images were exchanged for good */
+    SCALE_DONE_REVERT = 3,    /* the trial was not confirmed: the images were exchanged back */
+    SCALE_DONE_RESUMED = 4,   /* an exchange that power failure had cut was taken up again */
+    SCALE_DONE_CLEARED = 5    /* slot 1's image was rejected and erased */
+};
+
+/* How a start ended. */
+enum {
+    SCALE_END_BOOT = 0,    /* jump to slot 0 at `offset` */
+    SCALE_END_STOPPED = 1, /* the allowance is used up and another operation is due: start again */
+    SCALE_END_REFUSED = 2  /* see `refusal` */
+};
+
+/* The answer of a start. A field that does not apply is 0. */
+typedef struct {
+    uint64_t done;    /* SCALE_DONE_...: what was done */
+    uint64_t found;   /* the number of progress marks found, 3 to 3 * sectors, if these resumed an exchange; else 0 */
+    uint64_t count;   /* operations carried out: the smaller of the allowance and what was due */
+    uint64_t end;     /* SCALE_END_...: how it ended */
+    uint64_t offset;  /* with SCALE_END_BOOT: the header size of the image in slot 0, where its body begins */
+    uint64_t refusal; /* with SCALE_END_REFUSED: 1, 2, 3, 4 or 8 */
+    uint64_t cause;   /* with refusal 4: 3, 4 or 5 */
+} scale_answer;
+
+/* The answer of marking and confirming. */
+typedef struct {
+    uint64_t refusal; /* 0: done; else 1, 2, 5, 6, 7 or 8 */
+    uint64_t count;   /* operations carried out; 0 with refusals 1, 2, 5, 6 and 7 */
+} scale_marked;
+
+/*
+ * SHA-256 (FIPS 180-4) of `length` bytes at `message`, into the 32 bytes at `digest`.
+ */
+void scale_sha256(const uint8_t *message, size_t length, uint8_t digest[32]);
+
+/*
+ * Is there an image at the start of these bytes? 0 if so, else the cause, 1 to 5. For a slot, give its first
+ * (sectors - 1) * sector bytes. Bytes after the image are not read. Writes nothing.
+ */
+uint32_t scale_check_image(const uint8_t *image, size_t length);
+
+/*
+ * The plain start: what to do at each power-up. Resumes an exchange that was cut; else does the exchange that is due (slot 1 is marked,
+ * or a trial was not confirmed) if slot 1 holds an image, and erases slot 1 if not; then gives the offset to boot at. Slot 0's digest is
+ * not checked.
+ *
+ * At most `allowance` operations are carried out, in their order, and the areas then hold exactly what these leave. Give UINT64_MAX
+ * to go to the end. After SCALE_END_STOPPED call it again: it goes on from the flash alone.
+ *
+ * Refusals: 1, 2, 3, 8. With 1 and 2 nothing was written and count is 0.
+ */
+scale_answer scale_power_up(size_t unit, size_t sector, size_t sectors,
+                            uint8_t *slot0, size_t slot0_length,
+                            uint8_t *slot1, size_t slot1_length,
+                            uint8_t *scratch, size_t scratch_length,
+                            uint64_t allowance);
+
+/*
+ * The full start: as scale_power_up, and with `check_slot0` the image in slot 0 is checked, digest and all, before it is booted.
+ *
+ * Refusals: 1, 2, 3, 4, 8. Without `check_slot0` the answer is that of scale_power_up.
+ */
+scale_answer scale_full_start(size_t unit, size_t sector, size_t sectors,
+                              uint8_t *slot0, size_t slot0_length,
+                              uint8_t *slot1, size_t slot1_length,
+                              uint8_t *scratch, size_t scratch_length,
+                              uint64_t allowance, bool check_slot0);
+
+/*
+ * Mark slot 1: its image is exchanged into slot 0 at the next start, for good if `permanent`, else on trial. Whether there is an image
+ * is asked at that start, not here. Takes 16 / unit operations, one more if `permanent`.
+ *
+ * Refusals: 1, 2, 6, 5, asked in this order, all with count 0 and nothing written; 8.
+ */
+scale_marked scale_mark(size_t unit, size_t sector, size_t sectors,
+                        uint8_t *slot0, size_t slot0_length,
+                        uint8_t *slot1, size_t slot1_length,
+                        uint8_t *scratch, size_t scratch_length,
+                        bool permanent);
+
+/*
+ * Confirm slot 0: the firmware on trial stays. Call it from that firmware once it is content with itself. Takes 1 operation.
+ *
+ * Refusals: 1, 2, 6, 7, asked in this order, all with count 0 and nothing written; 8.
+ */
+scale_marked scale_confirm(size_t unit, size_t sector, size_t sectors,
+                           uint8_t *slot0, size_t slot0_length,
+                           uint8_t *slot1, size_t slot1_length,
+                           uint8_t *scratch, size_t scratch_length);
+
+#ifdef __cplusplus
+}
+#endif
+
+#endif
