@@ -255,7 +255,8 @@ static void change(scale *s, input *in, unsigned kind)
 
 static void set_up(scale *s, input *in)
 {
-    static const size_t geometries[][3] = {{1, 416, 2}, {2, 800, 2}, {4, 1568, 2}, {8, 3104, 2}, {1, 512, 3}, {2, 1000, 4}, {4, 1568, 3}, {8, 3104, 3}};
+    static const size_t geometries[8][3] = {{1, 416, 2}, {2, 800, 2},  {4, 1568, 2}, {8, 3104, 2},
+                                            {1, 512, 3}, {2, 1000, 4}, {4, 1568, 3}, {8, 3104, 3}};
     unsigned choice = next(in), fill = next(in);
     memcpy(&s->unit, geometries[choice % 8], 3 * sizeof s->unit);
     s->length[0] = s->length[1] = s->sectors * s->sector;

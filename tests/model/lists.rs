@@ -47,8 +47,11 @@ impl Geometry {
         let per_sector = self.units_per_sector();
         let mut standing = 3;
         for sector in (0..self.data_sectors()).rev() {
-            let moves =
-                [(Area::Slot1, sector, Area::Scratch, 0), (Area::Slot0, sector, Area::Slot1, sector), (Area::Scratch, 0, Area::Slot0, sector)];
+            let moves = [
+                (Area::Slot1, sector, Area::Scratch, 0),
+                (Area::Slot0, sector, Area::Slot1, sector),
+                (Area::Scratch, 0, Area::Slot0, sector),
+            ];
             for (j, (from, from_sector, to, to_sector)) in moves.into_iter().enumerate() {
                 standing += 1;
                 if standing <= c {

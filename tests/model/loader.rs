@@ -244,7 +244,7 @@ impl Geometry {
 
 fn reach_end(answer: &Answer, length: u64, allowance: u64, check_slot0: bool) {
     use Branch::*;
-    let done = answer.done as usize;
+    let (done, never) = (answer.done as usize, RefusedAfterExchange);
     match answer.end {
         End::Boot(_) => {
             reach([BootNone, BootTest, BootPermanent, BootRevert, BootResumed, BootCleared][done]);
@@ -260,11 +260,13 @@ fn reach_end(answer: &Answer, length: u64, allowance: u64, check_slot0: bool) {
             }
         }
         End::Refused(3, _) => {
-            reach([RefusedThreeNone, RefusedAfterExchange, RefusedAfterExchange, RefusedAfterExchange, RefusedThreeResumed, RefusedThreeCleared][done])
+            let after = [RefusedThreeNone, never, never, never, RefusedThreeResumed, RefusedThreeCleared];
+            reach(after[done]);
         }
         End::Refused(4, cause) => {
             reach([RefusedFourCause3, RefusedFourCause4, RefusedFourCause5][cause as usize - 3]);
-            reach([RefusedFourNone, RefusedAfterExchange, RefusedAfterExchange, RefusedAfterExchange, RefusedFourResumed, RefusedFourCleared][done]);
+            let after = [RefusedFourNone, never, never, never, RefusedFourResumed, RefusedFourCleared];
+            reach(after[done]);
         }
         End::Refused(_, _) => {}
     }

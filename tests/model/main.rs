@@ -15,6 +15,7 @@ mod random;
 mod reached;
 mod samples;
 mod sha256;
+mod show;
 mod states;
 mod subject;
 mod trailer;
@@ -130,6 +131,11 @@ fn compare_all(size: &Size, base: u64) -> Result<String, String> {
     ))
 }
 
+fn fail(problem: &str) -> ! {
+    eprintln!("FAILED: {problem}");
+    std::process::exit(1)
+}
+
 fn main() {
     crash::install();
     let arguments: Vec<String> = std::env::args().skip(1).collect();
@@ -151,6 +157,13 @@ fn main() {
             let folder = std::path::Path::new(arguments.get(1).map_or("dumps", String::as_str));
             return samples::write_dumps(folder).expect("the folder can be written");
         }
+        "show" => {
+            let program = arguments.get(1).map_or("target/bin/show", String::as_str);
+            match show::compare(program, 1_000) {
+                Ok(runs) => return println!("show: {runs} inputs, each line as the model's"),
+                Err(problem) => fail(&problem),
+            }
+        }
         "example" => return samples::print_example(),
         "branches" => {
             let result = compare_all(&SHORT, number(1).unwrap_or(2026));
@@ -161,9 +174,6 @@ fn main() {
     };
     match result {
         Ok(line) => println!("model against {}: {line}", subject::NAME),
-        Err(problem) => {
-            eprintln!("model against {}: FAILED: {problem}", subject::NAME);
-            std::process::exit(1);
-        }
+        Err(problem) => fail(&format!("model against {}: {problem}", subject::NAME)),
     }
 }
