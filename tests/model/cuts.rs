@@ -3,9 +3,10 @@
 
 use crate::compare::Outcome;
 use crate::flash::{Flash, Geometry, Operation};
+use crate::lent::Lent;
 use crate::loader::{Done, End};
 use crate::random::Random;
-use crate::subject::{raw, Lent};
+use crate::subject::raw;
 
 /// What lies in the sector or unit that was being changed.
 #[derive(Clone, Copy, Debug)]
@@ -71,10 +72,10 @@ impl Exchange {
     }
 
     /// Both take up the flash again with allowance enough, and both must leave what the exchange never cut leaves.
-    fn finish(&self, lent: &mut Lent, flash: &Flash, shift: usize) -> Outcome {
+    fn finish(&self, lent: &mut Lent, flash: &Flash, place: usize) -> Outcome {
         let mut work = flash.clone();
         let wanted = self.geometry.power_up(&mut work, u64::MAX, false);
-        lent.load(flash, shift);
+        lent.load(flash, place);
         let got = lent.power_up(self.geometry, u64::MAX);
         if got != raw(wanted) {
             return Err(format!("taken up again: got {got:?}, wanted {wanted:?}"));
@@ -117,8 +118,8 @@ pub fn every_cut(seed: u64, geometry: Geometry, kind: usize, harms: &[Harm]) -> 
             }
             let mut flash = rolling.clone();
             harm(&mut random, geometry, &mut flash, *operation, *kind_of_harm);
-            let shift = random.below(4096);
-            cuts += exchange.finish(&mut lent, &flash, shift).map_err(|problem| at(format!("{kind_of_harm:?}, {problem}")))?;
+            let place = random.below(4096);
+            cuts += exchange.finish(&mut lent, &flash, place).map_err(|problem| at(format!("{kind_of_harm:?}, {problem}")))?;
         }
         if !geometry.carry_out(&mut rolling, *operation) {
             return Err(at("a unit is not erased".into()));

@@ -7,6 +7,7 @@ mod cuts;
 mod edges;
 mod flash;
 mod image;
+mod lent;
 mod lists;
 mod loader;
 mod make;
