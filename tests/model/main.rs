@@ -1,5 +1,5 @@
-//! An independent implementation of document 01 (docs/ and READINGS.md decide, not the proved source), compared with the archive through
-//! the C boundary. `tests/model/run` builds and starts it; see there for the arguments.
+//! An independent implementation of document 01 (the document and docs/DECISIONS.md decide, not the proved source), compared with the
+//! archive through the C boundary. `tests/model/run` builds and starts it; see there for the arguments.
 
 mod compare;
 mod crash;
