@@ -2,33 +2,34 @@
 
 use crate::flash::{Flash, Geometry};
 use crate::image;
+use crate::lent::Lent;
 use crate::make;
 use crate::random::Random;
 use crate::sha256;
 use crate::states;
-use crate::subject::{self, raw, raw_marked, Lent};
+use crate::subject::{self, raw, raw_marked};
 
 /// Calls compared, or the difference.
 pub type Outcome = Result<u64, String>;
 
-struct Pair {
-    lent: Lent,
+struct Pair<'a> {
+    lent: &'a mut Lent,
     work: Flash,
-    shift: usize,
+    place: usize,
 }
 
 fn described(what: &str, geometry: Geometry, got: String, wanted: String) -> String {
     format!("{what}, {geometry:?}: got {got}, wanted {wanted}")
 }
 
-impl Pair {
+impl Pair<'_> {
     /// One call on fresh copies of the state.
     fn same<T: PartialEq + std::fmt::Debug>(
         &mut self, what: &str, geometry: Geometry, flash: &Flash, subject: impl FnOnce(&mut Lent) -> T, model: impl FnOnce(&mut Flash) -> T,
     ) -> Result<T, String> {
-        self.lent.load(flash, self.shift);
+        self.lent.load(flash, self.place);
         self.work.set(flash);
-        let got = subject(&mut self.lent);
+        let got = subject(self.lent);
         let wanted = model(&mut self.work);
         if got != wanted {
             return Err(described(what, geometry, format!("{got:?}"), format!("{wanted:?}")));
@@ -57,7 +58,7 @@ fn allowance(random: &mut Random, geometry: Geometry, flash: &Flash) -> u64 {
 }
 
 /// One state from its seed, through every function.
-pub fn one_state(seed: u64, large: bool) -> Outcome {
+pub fn one_state(lent: &mut Lent, seed: u64, large: bool) -> Outcome {
     let mut random = Random(seed);
     let (geometry, flash) = if random.percent(12) {
         states::wrong(&mut random)
@@ -66,8 +67,8 @@ pub fn one_state(seed: u64, large: bool) -> Outcome {
         let flash = geometry.state(&mut random);
         (geometry, flash)
     };
-    let shift = random.below(4096);
-    let mut pair = Pair { lent: Lent::new(), work: Flash { areas: [const { Vec::new() }; 3] }, shift };
+    let place = random.below(4096);
+    let mut pair = Pair { lent, work: Flash { areas: [const { Vec::new() }; 3] }, place };
     let mut calls = 0;
 
     let (b, c, d) = (allowance(&mut random, geometry, &flash), allowance(&mut random, geometry, &flash), random.percent(50));
@@ -93,14 +94,16 @@ pub fn one_state(seed: u64, large: bool) -> Outcome {
 }
 
 /// The image check and the digest on bytes of their own.
-pub fn one_image(seed: u64) -> Outcome {
+pub fn one_image(lent: &mut Lent, seed: u64) -> Outcome {
     let mut random = Random(seed);
     let bytes = make::bytes_to_check(&mut random);
-    let (got, wanted) = (subject::check_image(&bytes), image::check(&bytes).err().unwrap_or(0) as u32);
-    if got != wanted {
-        return Err(format!("image check of {} bytes: got {got}, wanted {wanted}", bytes.len()));
+    // lent in slot 0's place, often right beside a page that must not be read
+    lent.load(&Flash { areas: [bytes.clone(), Vec::new(), Vec::new()] }, random.below(16));
+    let (got, wanted) = (subject::check_image(lent.area(0)), image::check(&bytes).err().unwrap_or(0) as u32);
+    if got != wanted || lent.area(0) != bytes {
+        return Err(format!("image check of {} bytes: got {got}, wanted {wanted}, and no byte changed", bytes.len()));
     }
-    if subject::digest(&bytes) != sha256::digest(&bytes) {
+    if subject::digest(lent.area(0)) != sha256::digest(&bytes) {
         return Err(format!("digest of {} bytes differs", bytes.len()));
     }
     Ok(2)

@@ -3,9 +3,10 @@
 
 use crate::compare::Outcome;
 use crate::flash::{Flash, Geometry, Operation};
+use crate::lent::Lent;
 use crate::loader::{Done, End};
 use crate::random::Random;
-use crate::subject::{raw, Lent};
+use crate::subject::raw;
 
 /// What lies in the sector or unit that was being changed.
 #[derive(Clone, Copy, Debug)]
@@ -71,10 +72,10 @@ impl Exchange {
     }
 
     /// Both take up the flash again with allowance enough, and both must leave what the exchange never cut leaves.
-    fn finish(&self, lent: &mut Lent, flash: &Flash, shift: usize) -> Outcome {
+    fn finish(&self, lent: &mut Lent, flash: &Flash, place: usize) -> Outcome {
         let mut work = flash.clone();
         let wanted = self.geometry.power_up(&mut work, u64::MAX, false);
-        lent.load(flash, shift);
+        lent.load(flash, place);
         let got = lent.power_up(self.geometry, u64::MAX);
         if got != raw(wanted) {
             return Err(format!("taken up again: got {got:?}, wanted {wanted:?}"));
@@ -94,10 +95,9 @@ fn kind_of(random: &mut Random) -> usize {
 }
 
 /// Every cut point of one exchange, under each of the harms given.
-pub fn every_cut(seed: u64, geometry: Geometry, kind: usize, harms: &[Harm]) -> Outcome {
+pub fn every_cut(lent: &mut Lent, seed: u64, geometry: Geometry, kind: usize, harms: &[Harm]) -> Outcome {
     let mut random = Random(seed);
     let exchange = Exchange::new(&mut random, geometry, kind)?;
-    let mut lent = Lent::new();
     let mut rolling = exchange.before.clone();
     let mut cuts = 0;
     for (cut, operation) in exchange.list.iter().enumerate() {
@@ -117,8 +117,8 @@ pub fn every_cut(seed: u64, geometry: Geometry, kind: usize, harms: &[Harm]) -> 
             }
             let mut flash = rolling.clone();
             harm(&mut random, geometry, &mut flash, *operation, *kind_of_harm);
-            let shift = random.below(4096);
-            cuts += exchange.finish(&mut lent, &flash, shift).map_err(|problem| at(format!("{kind_of_harm:?}, {problem}")))?;
+            let place = random.below(4096);
+            cuts += exchange.finish(lent, &flash, place).map_err(|problem| at(format!("{kind_of_harm:?}, {problem}")))?;
         }
         if !geometry.carry_out(&mut rolling, *operation) {
             return Err(at("a unit is not erased".into()));
@@ -128,11 +128,10 @@ pub fn every_cut(seed: u64, geometry: Geometry, kind: usize, harms: &[Harm]) -> 
 }
 
 /// A chain of cuts, each during the work of taking up the last, and then the finish.
-pub fn repeated(seed: u64, geometry: Geometry) -> Outcome {
+pub fn repeated(lent: &mut Lent, seed: u64, geometry: Geometry) -> Outcome {
     let mut random = Random(seed);
     let kind = kind_of(&mut random);
     let exchange = Exchange::new(&mut random, geometry, kind)?;
-    let mut lent = Lent::new();
     let mut flash = exchange.before.clone();
     let failures = 1 + random.below(7);
     for failure in 0..failures {
@@ -151,11 +150,11 @@ pub fn repeated(seed: u64, geometry: Geometry) -> Outcome {
         let kind_of_harm = random.pick(&HARMS);
         harm(&mut random, geometry, &mut flash, list[cut], kind_of_harm);
     }
-    exchange.finish(&mut lent, &flash, 0).map(|_| failures as u64)
+    exchange.finish(lent, &flash, 0).map(|_| failures as u64)
 }
 
 /// Every second cut after one first cut.
-pub fn every_second_cut(seed: u64, geometry: Geometry, first: usize) -> Outcome {
+pub fn every_second_cut(lent: &mut Lent, seed: u64, geometry: Geometry, first: usize) -> Outcome {
     let mut random = Random(seed);
     let kind = kind_of(&mut random);
     let exchange = Exchange::new(&mut random, geometry, kind)?;
@@ -165,13 +164,12 @@ pub fn every_second_cut(seed: u64, geometry: Geometry, first: usize) -> Outcome 
         geometry.carry_out(&mut flash, *operation);
     }
     harm(&mut random, geometry, &mut flash, exchange.list[first], Harm::Arbitrary);
-    let mut lent = Lent::new();
     let list = geometry.plan(&flash).ok_or("damage after the first cut")?.list;
     for (second, operation) in list.iter().enumerate() {
         let mut cut = flash.clone();
         harm(&mut random, geometry, &mut cut, *operation, Harm::Arbitrary);
         let at = |problem: String| format!("cuts {first} and {second} of {geometry:?}, kind {kind}: {problem}");
-        exchange.finish(&mut lent, &cut, 0).map_err(at)?;
+        exchange.finish(lent, &cut, 0).map_err(at)?;
         geometry.carry_out(&mut flash, *operation);
     }
     Ok(list.len() as u64)

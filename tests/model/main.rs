@@ -1,5 +1,5 @@
-//! An independent implementation of document 01 (docs/ and READINGS.md decide, not the proved source), compared with the archive through
-//! the C boundary. `tests/model/run` builds and starts it; see there for the arguments.
+//! An independent implementation of document 01 (the document and docs/DECISIONS.md decide, not the proved source), compared with the
+//! archive through the C boundary. `tests/model/run` builds and starts it; see there for the arguments.
 
 mod compare;
 mod crash;
@@ -7,6 +7,7 @@ mod cuts;
 mod edges;
 mod flash;
 mod image;
+mod lent;
 mod lists;
 mod loader;
 mod make;
@@ -23,6 +24,8 @@ mod trailer;
 use compare::Outcome;
 use cuts::{Harm, HARMS};
 use flash::Geometry;
+use lent::Lent;
+use random::Random;
 
 /// How much a mode does.
 struct Size {
@@ -64,10 +67,11 @@ fn smallest(unit: usize, sectors: usize) -> Geometry {
 
 /// The seed of one case: from a part, and a number in it.
 fn seed(base: u64, part: u64, number: u64) -> u64 {
-    random::Random(base ^ part << 56 ^ number).next()
+    let mixed = Random(base).next();
+    Random(mixed ^ part << 56 ^ number).next()
 }
 
-fn each(what: &'static str, seeds: impl Iterator<Item = u64>, case: impl Fn(u64) -> Outcome) -> Outcome {
+fn each(what: &'static str, seeds: impl Iterator<Item = u64>, mut case: impl FnMut(u64) -> Outcome) -> Outcome {
     let mut sum = 0;
     for seed in seeds {
         crash::now(what, seed);
@@ -76,49 +80,50 @@ fn each(what: &'static str, seeds: impl Iterator<Item = u64>, case: impl Fn(u64)
     Ok(sum)
 }
 
-fn every_cut(seed: u64, size: &Size) -> Outcome {
+fn every_cut(lent: &mut Lent, seed: u64, size: &Size) -> Outcome {
     let mut sum = 0;
     for unit in [1, 2, 4, 8] {
         for sectors in size.sectors {
             for kind in 0..3 {
-                sum += cuts::every_cut(seed, smallest(unit, *sectors), kind, size.harms)?;
+                sum += cuts::every_cut(lent, seed, smallest(unit, *sectors), kind, size.harms)?;
             }
         }
     }
     Ok(sum)
 }
 
-fn second_cuts(seed: u64, every: usize) -> Outcome {
+fn second_cuts(lent: &mut Lent, seed: u64, every: usize) -> Outcome {
     let mut sum = 0;
     for unit in [1, 2, 4, 8] {
         // a revert of two sectors has the longest list
         let longest = 3 * (384 + 32 / unit + 2) + 10 + 32 / unit;
         for first in (0..longest).step_by(every) {
-            sum += cuts::every_second_cut(seed.wrapping_add(first as u64), smallest(unit, 2), first)?;
+            sum += cuts::every_second_cut(lent, seed.wrapping_add(first as u64), smallest(unit, 2), first)?;
         }
     }
     Ok(sum)
 }
 
-fn chain(seed: u64) -> Outcome {
-    let mut random = random::Random(seed);
+fn chain(lent: &mut Lent, seed: u64) -> Outcome {
+    let mut random = Random(seed);
     let geometry = smallest(random.pick(&[1, 2, 4, 8]), random.pick(&[2, 2, 3, 4]));
-    cuts::repeated(random.next(), geometry)
+    cuts::repeated(lent, random.next(), geometry)
 }
 
 fn compare_all(size: &Size, base: u64) -> Result<String, String> {
+    let lent = &mut Lent::new();
     let edges = edges::run();
     reached::clear();
     let seeds = |part: u64, count: u64| (0..count).map(move |number| seed(base, part, number));
     let digests = compare::digests()?;
-    let images = each("image", seeds(1, size.images), compare::one_image)?;
-    let states = each("state", seeds(2, size.states), |seed| compare::one_state(seed, false))?;
-    let large = each("large", seeds(3, size.large_states), |seed| compare::one_state(seed, true))?;
+    let images = each("image", seeds(1, size.images), |seed| compare::one_image(lent, seed))?;
+    let states = each("state", seeds(2, size.states), |seed| compare::one_state(lent, seed, false))?;
+    let large = each("large", seeds(3, size.large_states), |seed| compare::one_state(lent, seed, true))?;
     let branches = reached::verdict()?;
-    let cuts = each("cuts", seeds(4, 1), |seed| every_cut(seed, size))?;
-    let chains = each("chain", seeds(5, size.chains), chain)?;
+    let cuts = each("cuts", seeds(4, 1), |seed| every_cut(lent, seed, size))?;
+    let chains = each("chain", seeds(5, size.chains), |seed| chain(lent, seed))?;
     let pairs = match size.second_cuts_every {
-        Some(every) => each("pairs", seeds(6, 1), |seed| second_cuts(seed, every))?,
+        Some(every) => each("pairs", seeds(6, 1), |seed| second_cuts(lent, seed, every))?,
         None => 0,
     };
     reached::verdict()?;
@@ -141,17 +146,18 @@ fn main() {
     let arguments: Vec<String> = std::env::args().skip(1).collect();
     let number = |at: usize| arguments.get(at).map(|text| text.parse::<u64>().expect("a whole number"));
     let mode = arguments.first().map_or("short", String::as_str);
+    let lent = &mut Lent::new();
     let again = || number(1).expect("the seed that was printed");
     let result = match mode {
         "short" | "long" if cfg!(not(archive)) => Err("this program was built without the archive".into()),
         "short" | "self" => compare_all(&SHORT, number(1).unwrap_or(2026)),
         "long" => compare_all(&LONG, number(1).unwrap_or(2027)),
-        "state" => compare::one_state(again(), false).map(|calls| format!("{calls} calls")),
-        "large" => compare::one_state(again(), true).map(|calls| format!("{calls} calls")),
-        "image" => compare::one_image(again()).map(|calls| format!("{calls} calls")),
-        "cuts" => every_cut(again(), &LONG).map(|cuts| format!("{cuts} cuts")),
-        "chain" => chain(again()).map(|cuts| format!("{cuts} cuts")),
-        "pairs" => second_cuts(again(), 1).map(|cuts| format!("{cuts} pairs")),
+        "state" => compare::one_state(lent, again(), false).map(|calls| format!("{calls} calls")),
+        "large" => compare::one_state(lent, again(), true).map(|calls| format!("{calls} calls")),
+        "image" => compare::one_image(lent, again()).map(|calls| format!("{calls} calls")),
+        "cuts" => every_cut(lent, again(), &LONG).map(|cuts| format!("{cuts} cuts")),
+        "chain" => chain(lent, again()).map(|cuts| format!("{cuts} cuts")),
+        "pairs" => second_cuts(lent, again(), 1).map(|cuts| format!("{cuts} pairs")),
         "edges" => return println!("{} edges of document 01 hold in the model", edges::run()),
         "dumps" => {
             let folder = std::path::Path::new(arguments.get(1).map_or("dumps", String::as_str));

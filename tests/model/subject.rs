@@ -1,9 +1,9 @@
-//! What is compared with the model: the functions of `include/scale.h` in the archive. Each area is lent from the middle of a longer
-//! buffer, at any alignment, and the guard bytes around it are looked at after each call.
+//! What is compared with the model: the functions of `include/scale.h` in the archive.
 //! Built without the archive (no `--cfg archive`), the model stands in for it: that tries this program and says nothing of the archive.
 
-use crate::flash::{Flash, Geometry};
-use crate::loader::{Answer, Marked};
+use crate::flash::Geometry;
+use crate::lent::Lent;
+use crate::loader::{Answer, End, Marked};
 
 #[derive(Clone, Copy, PartialEq, Debug)]
 #[repr(C)]
@@ -26,7 +26,6 @@ pub struct RawMarked {
 
 /// The model's answer in the numbers of the C boundary.
 pub fn raw(answer: Answer) -> RawAnswer {
-    use crate::loader::End;
     let (end, offset, refusal, cause) = match answer.end {
         End::Boot(offset) => (0, offset, 0, 0),
         End::Stopped => (1, 0, 0, 0),
@@ -37,71 +36,6 @@ pub fn raw(answer: Answer) -> RawAnswer {
 
 pub fn raw_marked(marked: Marked) -> RawMarked {
     RawMarked { refusal: marked.refusal, count: marked.count }
-}
-
-const GUARD: usize = 64;
-
-fn guard_byte(index: usize) -> u8 {
-    0xa5 ^ (index as u8).wrapping_mul(29)
-}
-
-/// Three areas as they are lent.
-pub struct Lent {
-    buffers: [Vec<u8>; 3],
-    starts: [usize; 3],
-    lengths: [usize; 3],
-}
-
-impl Lent {
-    pub fn new() -> Lent {
-        Lent { buffers: [const { Vec::new() }; 3], starts: [0; 3], lengths: [0; 3] }
-    }
-
-    /// Copy the flash in, each area shifted by some bytes.
-    pub fn load(&mut self, flash: &Flash, shift: usize) {
-        for index in 0..3 {
-            let area = &flash.areas[index];
-            let start = GUARD + (shift >> (4 * index)) % 16;
-            let buffer = &mut self.buffers[index];
-            buffer.clear();
-            buffer.extend((0..start).map(guard_byte));
-            buffer.extend_from_slice(area);
-            buffer.extend((0..GUARD).map(|after| guard_byte(start + after)));
-            (self.starts[index], self.lengths[index]) = (start, area.len());
-        }
-    }
-
-    pub fn area(&self, index: usize) -> &[u8] {
-        &self.buffers[index][self.starts[index]..self.starts[index] + self.lengths[index]]
-    }
-
-    pub fn area_mut(&mut self, index: usize) -> &mut [u8] {
-        &mut self.buffers[index][self.starts[index]..self.starts[index] + self.lengths[index]]
-    }
-
-    fn guards_stand(&self) -> bool {
-        (0..3).all(|index| {
-            let (start, end) = (self.starts[index], self.starts[index] + self.lengths[index]);
-            let buffer = &self.buffers[index];
-            buffer[..start].iter().enumerate().all(|(at, byte)| *byte == guard_byte(at))
-                && buffer[end..].iter().enumerate().all(|(at, byte)| *byte == guard_byte(start + at))
-        })
-    }
-
-    /// Nothing, or which area differs and where first.
-    pub fn difference(&self, flash: &Flash) -> Option<String> {
-        if !self.guards_stand() {
-            return Some("a byte outside the areas was changed".into());
-        }
-        for (index, name) in ["slot 0", "slot 1", "scratch"].into_iter().enumerate() {
-            let (got, wanted) = (self.area(index), &flash.areas[index][..]);
-            if got != wanted {
-                let at = got.iter().zip(wanted).position(|(a, b)| a != b).unwrap_or(got.len().min(wanted.len()));
-                return Some(format!("{name} differs first at byte {at}: got {:02x?}, wanted {:02x?}", got.get(at), wanted.get(at)));
-            }
-        }
-        None
-    }
 }
 
 #[cfg(archive)]
@@ -133,7 +67,7 @@ mod calls {
 
     impl Lent {
         fn pointers(&mut self) -> [(*mut u8, usize); 3] {
-            std::array::from_fn(|index| (self.area_mut(index).as_mut_ptr(), self.lengths[index]))
+            std::array::from_fn(|index| (self.area_mut(index).as_mut_ptr(), self.area(index).len()))
         }
 
         pub fn power_up(&mut self, g: Geometry, allowance: u64) -> RawAnswer {
@@ -171,6 +105,7 @@ mod calls {
 #[cfg(not(archive))]
 mod calls {
     use super::*;
+    use crate::flash::Flash;
 
     pub const NAME: &str = "NO ARCHIVE, the model itself";
 

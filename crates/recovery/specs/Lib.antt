@@ -17,9 +17,8 @@ pub mod Windows
 pub mod Validity
 pub mod Places
 pub mod Reading
-pub mod Statement
-pub mod Validity
-pub mod Count
+pub mod Notes
+pub mod Lines
 pub mod Hiding
 pub mod Begin
 pub mod Settling
@@ -29,12 +28,6 @@ pub mod MoveRun
 pub mod Chunks
 pub mod Stages
 pub mod Follows
-pub mod Fresh
-pub mod Unerased
-pub mod Bridge
-pub mod NeverLost
-pub mod BaseMoves
-pub mod Demand3
 pub mod NeverLost
 pub mod BaseMoves
 pub mod Fresh

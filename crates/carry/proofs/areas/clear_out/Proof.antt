@@ -1,0 +1,41 @@
+use borrow.Author.Needs.{needs}
+use Rattle.carry.proofs.areas.clear_out.Statement.{statement}
+use Rattle.carry.proofs.areas.clear_out.Tie as tie
+use Rattle.carry.proofs.areas.clear_out.Reads as reads
+use Rattle.carry.proofs.areas.clear_out.Lts as lts
+use Rattle.carry.proofs.trailers.erase_sectors.Reads as erase-sectors-reads
+use Rattle.carry.proofs.trailers.write_ok.Reads as write-ok-reads
+use Rattle.flash.proofs.erase.Reads as erase-reads
+
+sub-last : tie.Need-sub-last
+sub-last c = search needs
+
+erase-sectors-requires : tie.Need-erase-sectors-requires
+erase-sectors-requires c κs = search needs
+
+write-ok-requires : tie.Need-write-ok-requires
+write-ok-requires c κs = search needs
+
+erase-requires : tie.Need-erase-requires
+erase-requires c κs = search needs
+
+same-length : tie.Need-same-length
+same-length c = search needs
+
+same-length-2 : tie.Need-same-length-2
+same-length-2 c = search needs
+
+returns : tie.Need-returns
+returns c = search needs
+
+pub clear-out-spec : {M : Type 1} → statement M
+clear-out-spec =
+    tie.close
+    (tie.spec
+    sub-last
+    erase-sectors-requires
+    write-ok-requires
+    erase-requires
+    same-length
+    same-length-2
+    returns)
