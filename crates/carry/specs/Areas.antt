@@ -15,9 +15,9 @@ use Rattle.flash.specs.Base.{allMoves, base, build}
 use Rattle.flash.specs.Operations.{Op, State, Local, local, in-area, back, eraseIn, step, steps}
 use Rattle.flash.specs.OperationLaws.{steps-append}
 use Rattle.trailer.specs.Trailer.{doneAt}
-use Rattle.plan.specs.Lists.{clear, mark, okOps, progress, magicOps, settle, moveOps, dataOps}
+use Rattle.plan.specs.Lists.{clear, mark, okOps, progress, magicOps, begin, settle, moveOps, dataOps, erases, clearOut}
 use Rattle.carry.specs.Steps.{moveIn, steps-move}
-use Rattle.carry.specs.InArea.{markIn, lineFiveIn, steps-line-five}
+use Rattle.carry.specs.InArea.{markIn, okIn, beginIn, lineFiveIn, erasesIn, steps-ok, steps-begin, steps-line-five, steps-erases}
 use Rattle.carry.specs.Moves.{moveOf, next-move, length-moves}
 
 abbrev pub state : List ℕ → List ℕ → List ℕ → Run → State
@@ -94,3 +94,28 @@ last-mark g k s p e =
     let none : drop (k - 3) (allMoves (g .sectors - 1)) ≡ [] =
     drop-of-length-le (allMoves (g .sectors - 1)) {i = k - 3} (omega (arith, length-moves (g .sectors - 1))) in
     ap (λ (l : List Move). steps (build g) (dataOps (build g) k l) s) none
+
+-- the clear-out, part by part
+module _ (g : Geometry) (u : Bool) (x0 x1 x2 : List ℕ) (r : Run) where
+  pub cleared : (y1 : List ℕ) (r₁ : Run) → local y1 r₁ ≡ erasesIn g 0 (g .sectors - 1) (local x1 r)
+      → (x0' : List ℕ) (r₂ : Run) → local x0' r₂ ≡ okIn g (trailerSector (build g) slot0) u (local x0 r₁)
+      → (x1' : List ℕ) (r₃ : Run) → local x1' r₃ ≡ eraseIn g (trailerSector (build g) slot1) (local y1 r₂)
+      → state x0' x1' x2 r₃ ≡ steps (build g) (clearOut (build g) u) (state x0 x1 x2 r)
+  unfolding clearOut steps step base
+  cleared y1 r₁ e₁ x0' r₂ e₂ x1' r₃ e₃ =
+      ap (back slot1 (state x0' y1 x2 r₂)) e₃
+      ∙ ap (λ (l : Local). step (build g) (clear (build g) slot1) (back slot0 (state x0 y1 x2 r₁) l)) e₂
+      ∙ ap (step (build g) (clear (build g) slot1)) (sym (steps-ok g slot0 u (state x0 y1 x2 r₁)))
+      ∙ sym (steps-append (build g) (okOps (build g) slot0 u) (clear (build g) slot1 ∷ []) (state x0 y1 x2 r₁))
+      ∙ ap (λ (l : Local). steps (build g) rest (back slot1 (state x0 x1 x2 r) l)) e₁
+      ∙ ap (steps (build g) rest) (sym (steps-erases g slot1 0 (g .sectors - 1) (state x0 x1 x2 r)))
+      ∙ sym (steps-append (build g) (erases slot1 0 (g .sectors - 1)) rest (state x0 x1 x2 r))
+    where
+      rest : List Op
+      rest = okOps (build g) slot0 u ++ (clear (build g) slot1 ∷ [])
+
+-- lines 1 and 2
+pub begun : (g : Geometry) (p : Bool) (x0 x1 x2 : List ℕ) (r : Run) (x2' : List ℕ) (r' : Run)
+    → local x2' r' ≡ beginIn g (trailerSector (build g) scratch) p (local x2 r)
+    → state x0 x1 x2' r' ≡ steps (build g) (begin (build g) p) (state x0 x1 x2 r)
+begun g p x0 x1 x2 r x2' r' e = ap (back scratch (state x0 x1 x2 r)) e ∙ sym (steps-begin g p (state x0 x1 x2 r))

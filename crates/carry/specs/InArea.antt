@@ -49,7 +49,7 @@ erasesIn g i zero l = l
 erasesIn g i (suc k) l = erasesIn g (suc i) k (eraseIn g (sectorNo i) l)
 
 module _ (g : Geometry) (a : Area) where
-  steps-ok : (p : Bool) (s : State) → steps (build g) (okOps (build g) a p) s ≡ back a s (okIn g (trailerSector (build g) a) p (in-area a s))
+  pub steps-ok : (p : Bool) (s : State) → steps (build g) (okOps (build g) a p) s ≡ back a s (okIn g (trailerSector (build g) a) p (in-area a s))
   unfolding okOps okIn markIn steps step base
   steps-ok true s = refl
   steps-ok false s = sym (back-own a s)

@@ -94,7 +94,14 @@ fn marked_move(
 }
 
 // The moves from mark number c on, each with its mark; what is left is copy done.
-fn moves_from(g: Geometry, c: usize, slot0: &mut [u8], slot1: &mut [u8], scratch: &mut [u8], run: Run) -> Run
+fn moves_from(
+    g: Geometry,
+    c: usize,
+    slot0: &mut [u8],
+    slot1: &mut [u8],
+    scratch: &mut [u8],
+    run: Run,
+) -> Run
     requires { ⌜ Small g ⌝ }
     requires { ⌜ (3 ≤ c) × (c ≤ 3 * g .sectors) ⌝ }
     ensures { λ r. ⌜ step (build g) (mark (build g) Area.slot0 (doneAt (build g)) 1) (state (now (slot0 .exit)) (now (slot1 .exit)) (now (scratch .exit)) r) ≡ steps (build g) (dataOps (build g) c (drop (c - 3) (allMoves (g .sectors - 1)))) (state (now (slot0 .entry)) (now (slot1 .entry)) (now (scratch .entry)) run) ⌝ }
@@ -109,7 +116,14 @@ fn moves_from(g: Geometry, c: usize, slot0: &mut [u8], slot1: &mut [u8], scratch
 }
 
 // The data exchange after c marks.
-pub fn data_exchange(g: Geometry, c: usize, slot0: &mut [u8], slot1: &mut [u8], scratch: &mut [u8], run: Run) -> Run
+pub fn data_exchange(
+    g: Geometry,
+    c: usize,
+    slot0: &mut [u8],
+    slot1: &mut [u8],
+    scratch: &mut [u8],
+    run: Run,
+) -> Run
     requires { ⌜ Small g ⌝ }
     requires { ⌜ (3 ≤ c) × (c ≤ 3 * g .sectors) ⌝ }
     ensures { λ r. ⌜ state (now (slot0 .exit)) (now (slot1 .exit)) (now (scratch .exit)) r ≡ steps (build g) (dataOps (build g) c (drop (c - 3) (allMoves (g .sectors - 1)))) (state (now (slot0 .entry)) (now (slot1 .entry)) (now (scratch .entry)) run) ⌝ }
@@ -120,7 +134,14 @@ pub fn data_exchange(g: Geometry, c: usize, slot0: &mut [u8], slot1: &mut [u8], 
 }
 
 // The trailer exchange from its third line on, and the data exchange.
-pub fn from_line_three(g: Geometry, slot0: &mut [u8], slot1: &mut [u8], scratch: &mut [u8], lasting: bool, run: Run) -> Run
+pub fn from_line_three(
+    g: Geometry,
+    slot0: &mut [u8],
+    slot1: &mut [u8],
+    scratch: &mut [u8],
+    lasting: bool,
+    run: Run,
+) -> Run
     requires { ⌜ Small g ⌝ }
     ensures { λ r. ⌜ state (now (slot0 .exit)) (now (slot1 .exit)) (now (scratch .exit)) r ≡ steps (build g) (settle (build g) lasting ++ dataOps (build g) 3 (allMoves (g .sectors - 1))) (state (now (slot0 .entry)) (now (slot1 .entry)) (now (scratch .entry)) run) ⌝ }
 {
@@ -128,7 +149,14 @@ pub fn from_line_three(g: Geometry, slot0: &mut [u8], slot1: &mut [u8], scratch:
     data_exchange(g, 3, slot0, slot1, scratch, trailers)
 }
 
-pub fn whole_exchange(g: Geometry, slot0: &mut [u8], slot1: &mut [u8], scratch: &mut [u8], lasting: bool, run: Run) -> Run
+pub fn whole_exchange(
+    g: Geometry,
+    slot0: &mut [u8],
+    slot1: &mut [u8],
+    scratch: &mut [u8],
+    lasting: bool,
+    run: Run,
+) -> Run
     requires { ⌜ Small g ⌝ }
     ensures { λ r. ⌜ state (now (slot0 .exit)) (now (slot1 .exit)) (now (scratch .exit)) r ≡ steps (build g) (exchange (build g) lasting) (state (now (slot0 .entry)) (now (slot1 .entry)) (now (scratch .entry)) run) ⌝ }
 {

@@ -1,3 +1,5 @@
+use Rattle.flash.specs.Base.{base}
+use Rattle.carry.specs.Areas.{cleared}
 use borrow.Author.Needs.{needs}
 use Rattle.carry.proofs.areas.clear_out.Statement.{statement}
 use Rattle.carry.proofs.areas.clear_out.Tie as tie
@@ -26,7 +28,11 @@ same-length-2 : tie.Need-same-length-2
 same-length-2 c = search needs
 
 returns : tie.Need-returns
-returns c = search needs
+unfolding base
+returns c =
+    λ x2.
+    cleared (c .before .before .before .before .before .before .before .before .before .before .before .before .before .before .before .args .g) (c .before .before .before .before .before .before .before .before .before .before .before .before .before .before .before .args .unset) (c .before .before .before .before .before .before .before .before .before .before .before .before .before .before .before .args .slot0 .now) (c .before .before .before .before .before .before .before .before .before .before .before .before .before .before .before .args .slot1 .now) x2 (c .before .before .before .before .before .before .before .before .before .before .before .before .before .before .before .args .run)
+    _ _ (c .before .before .before .before .before .before .before .before .before .before .erase-sectors .ensures) _ _ (c .before .before .before .before .before .before .write-ok .ensures) _ _ (c .before .before .erase .ensures)
 
 pub clear-out-spec : {M : Type 1} → statement M
 clear-out-spec =

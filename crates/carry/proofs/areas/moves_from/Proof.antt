@@ -20,7 +20,7 @@ abbrev μ-loop : tie.MeasureT-loop
 μ-loop g c slot0₀ slot1₀ scratch₀ r₀ k₀ slot0 slot1 scratch r k = 3 * g .sectors - k
 
 loop-holds : tie.Need-loop-holds Inv-loop μ-loop
-loop-holds c = search needs
+loop-holds c = (omega arith, omega (arith, c .before .before .before .pre .1), refl, refl, refl, refl)
 
 mul-if1 : tie.Need-mul-if1 Inv-loop μ-loop
 mul-if1 c = search needs
@@ -35,7 +35,16 @@ loop-less : tie.Need-loop-less Inv-loop μ-loop
 loop-less c = search needs
 
 loop-again : tie.Need-loop-again Inv-loop μ-loop
-loop-again c = search needs
+loop-again c =
+    let k : ℕ = c .before .before .before .before .before .before .before .before .before .before .before .before .loop .k in (
+      omega arith,
+      omega arith,
+      search needs,
+      search needs,
+      search needs,
+      ap (steps (build (c .before .before .before .before .before .before .before .before .before .before .before .before .before .before .before .before .args .g)) (dataOps (build (c .before .before .before .before .before .before .before .before .before .before .before .before .before .before .before .before .args .g)) (k + 1) (drop (k + 1 - 3) (allMoves (c .before .before .before .before .before .before .before .before .before .before .before .before .before .before .before .before .args .g .sectors - 1))))) (c .before .before .before .before .before .before .marked-move .ensures)
+          ∙ sym (next-mark (c .before .before .before .before .before .before .before .before .before .before .before .before .before .before .before .before .args .g) k _ (omega (arith, c .before .before .before .before .before .before .before .before .before .before .before .before .before .before .before .before .pre .1)) (omega arith)) ∙ c .before .before .before .before .before .before .before .before .before .before .before .before .loop .inv .5,
+    )
 
 same-length : tie.Need-same-length Inv-loop μ-loop
 same-length c = search needs
@@ -47,7 +56,9 @@ same-length-3 : tie.Need-same-length-3 Inv-loop μ-loop
 same-length-3 c = search needs
 
 returns : tie.Need-returns Inv-loop μ-loop
-returns c = search needs
+returns c =
+    let e : c .before .before .loop .k ≡ 3 * c .before .before .before .before .before .before .args .g .sectors = omega arith in
+    sym (last-mark (c .before .before .before .before .before .before .args .g) (c .before .before .loop .k) _ (omega (arith, c .before .before .before .before .before .before .pre .0 .two)) e) ∙ c .before .before .loop .inv .5
 
 pub moves-from-spec : {M : Type 1} → statement M
 moves-from-spec =

@@ -1,0 +1,62 @@
+use Rattle.carry.specs.Areas.{state, in-slot0}
+use mathlib.Core.Path.{_≡_, ap, _∙_}
+use Prim.Native.Nat.{_-_}
+use native.Mathlib.Omega.{arith}
+use Rattle.flash.specs.declared.Offset.{Offset}
+use Rattle.flash.specs.Build.{Area}
+use Rattle.flash.specs.Base.{base, build}
+use Rattle.flash.specs.Operations.{step}
+use Rattle.plan.specs.Lists.{mark}
+use borrow.Author.Needs.{needs}
+use Rattle.carry.proofs.areas.data_exchange.Statement.{statement}
+use Rattle.carry.proofs.areas.data_exchange.Tie as tie
+use Rattle.carry.proofs.areas.data_exchange.Reads as reads
+use Rattle.carry.proofs.areas.data_exchange.Lts as lts
+use Rattle.carry.proofs.areas.moves_from.Reads as moves-from-reads
+use Rattle.carry.proofs.trailers.write_mark.Reads as write-mark-reads
+use Rattle.trailer.proofs.places.done_place.Reads as done-place-reads
+
+moves-from-requires : tie.Need-moves-from-requires
+moves-from-requires c κs = search needs
+
+done-place-requires : tie.Need-done-place-requires
+done-place-requires c κs = search needs
+
+sub-t17 : tie.Need-sub-t17
+sub-t17 c = search needs
+
+write-mark-requires : tie.Need-write-mark-requires
+unfolding base
+write-mark-requires c κs =
+    let e : c .before .before .done-place .result .0 ≡ c .before .before .before .before .before .before .before .before .before .before .before .before .before .before .before .before .args .g .sector - 32 = ap (λ (o : Offset). o .0) (c .before .before .done-place .ensures) in
+    (c .before .before .before .before .before .before .before .before .before .before .before .before .before .before .before .before .pre .0, (omega (arith, c .before .before .before .before .before .before .before .before .before .before .before .before .before .before .before .before .pre .0 .many), omega (arith, e, c .before .before .before .before .before .before .before .before .before .before .before .before .before .before .before .before .pre .0 .room)))
+
+same-length : tie.Need-same-length
+same-length c = search needs
+
+same-length-2 : tie.Need-same-length-2
+same-length-2 c = search needs
+
+same-length-3 : tie.Need-same-length-3
+same-length-3 c = search needs
+
+returns : tie.Need-returns
+unfolding base
+returns c =
+    in-slot0 (c .before .before .before .before .before .before .before .before .before .before .before .before .before .before .before .before .before .before .before .args .g) _ _ _ _ (c .before .before .before .before .before .done-place .result) 1 _ _ (c .before .before .write-mark .ensures)
+    ∙ ap (λ (o : Offset). step (build (c .before .before .before .before .before .before .before .before .before .before .before .before .before .before .before .before .before .before .before .args .g)) (mark (build (c .before .before .before .before .before .before .before .before .before .before .before .before .before .before .before .before .before .before .before .args .g)) Area.slot0 o 1)
+    (state (c .before .before .before .before .before .before .before .before .before .before .before .before .moves-from .last .1 .1 .0) (c .before .before .before .before .before .before .before .before .before .before .before .before .moves-from .last .1 .1 .1 .0) (c .before .before .before .before .before .before .before .before .before .before .before .before .moves-from .last .1 .1 .1 .1 .0) (c .before .before .before .before .before .before .before .before .before .before .before .before .moves-from .result))) (c .before .before .before .before .before .done-place .ensures)
+    ∙ c .before .before .before .before .before .before .before .before .before .before .before .before .moves-from .ensures
+
+pub data-exchange-spec : {M : Type 1} → statement M
+data-exchange-spec =
+    tie.close
+    (tie.spec
+    moves-from-requires
+    done-place-requires
+    sub-t17
+    write-mark-requires
+    same-length
+    same-length-2
+    same-length-3
+    returns)

@@ -1,0 +1,49 @@
+use mathlib.Core.Path.{sym, ap, _∙_}
+use mathlib.Core.List.{List, _++_}
+use Prim.Native.Nat.{_-_}
+use Rattle.flash.specs.Base.{allMoves, base, build}
+use Rattle.flash.specs.Operations.{Op, steps}
+use Rattle.flash.specs.OperationLaws.{steps-append}
+use Rattle.plan.specs.Lists.{begin, settle, dataOps, exchange}
+use Rattle.carry.specs.Areas.{begun}
+use borrow.Author.Needs.{needs}
+use Rattle.carry.proofs.areas.whole_exchange.Statement.{statement}
+use Rattle.carry.proofs.areas.whole_exchange.Tie as tie
+use Rattle.carry.proofs.areas.whole_exchange.Reads as reads
+use Rattle.carry.proofs.areas.whole_exchange.Lts as lts
+use Rattle.carry.proofs.areas.from_line_three.Reads as from-line-three-reads
+use Rattle.carry.proofs.trailers.lines_one_two.Reads as lines-one-two-reads
+
+lines-one-two-requires : tie.Need-lines-one-two-requires
+lines-one-two-requires c κs = search needs
+
+from-line-three-requires : tie.Need-from-line-three-requires
+from-line-three-requires c κs = search needs
+
+same-length : tie.Need-same-length
+same-length c = search needs
+
+same-length-2 : tie.Need-same-length-2
+same-length-2 c = search needs
+
+same-length-3 : tie.Need-same-length-3
+same-length-3 c = search needs
+
+returns : tie.Need-returns
+unfolding exchange base
+returns c =
+    let rest : List Op = settle (build (c .before .before .before .before .before .before .before .before .before .before .before .before .before .before .before .before .before .args .g)) (c .before .before .before .before .before .before .before .before .before .before .before .before .before .before .before .before .before .args .lasting) ++ dataOps (build (c .before .before .before .before .before .before .before .before .before .before .before .before .before .before .before .before .before .args .g)) 3 (allMoves (c .before .before .before .before .before .before .before .before .before .before .before .before .before .before .before .before .before .args .g .sectors - 1)) in
+    c .before .before .before .before .before .before .from-line-three .ensures
+    ∙ ap (steps (build (c .before .before .before .before .before .before .before .before .before .before .before .before .before .before .before .before .before .args .g)) rest) (begun (c .before .before .before .before .before .before .before .before .before .before .before .before .before .before .before .before .before .args .g) (c .before .before .before .before .before .before .before .before .before .before .before .before .before .before .before .before .before .args .lasting) (c .before .before .before .before .before .before .before .before .before .before .before .before .before .before .before .before .before .args .slot0 .now) (c .before .before .before .before .before .before .before .before .before .before .before .before .before .before .before .before .before .args .slot1 .now) (c .before .before .before .before .before .before .before .before .before .before .before .before .before .before .before .before .before .args .scratch .now) (c .before .before .before .before .before .before .before .before .before .before .before .before .before .before .before .before .before .args .run) _ _ (c .before .before .before .before .before .before .before .before .before .before .before .before .lines-one-two .ensures))
+    ∙ sym (steps-append (build (c .before .before .before .before .before .before .before .before .before .before .before .before .before .before .before .before .before .args .g)) (begin (build (c .before .before .before .before .before .before .before .before .before .before .before .before .before .before .before .before .before .args .g)) (c .before .before .before .before .before .before .before .before .before .before .before .before .before .before .before .before .before .args .lasting)) rest _)
+
+pub whole-exchange-spec : {M : Type 1} → statement M
+whole-exchange-spec =
+    tie.close
+    (tie.spec
+    lines-one-two-requires
+    from-line-three-requires
+    same-length
+    same-length-2
+    same-length-3
+    returns)
