@@ -2,3 +2,4 @@ pub mod Steps
 pub mod InArea
 pub mod Moves
 pub mod Areas
+pub mod Courses

@@ -1,0 +1,175 @@
+use borrow.Author.Needs.{needs}
+use Rattle.carry.proofs.courses.carry_out.Statement.{statement}
+use Rattle.carry.proofs.courses.carry_out.Tie as tie
+use Rattle.carry.proofs.courses.carry_out.Reads as reads
+use Rattle.carry.proofs.courses.carry_out.Lts as lts
+use Rattle.carry.proofs.areas.clear_out.Reads as clear-out-reads
+use Rattle.carry.proofs.areas.data_exchange.Reads as data-exchange-reads
+use Rattle.carry.proofs.areas.from_line_three.Reads as from-line-three-reads
+use Rattle.carry.proofs.areas.whole_exchange.Reads as whole-exchange-reads
+use Rattle.carry.proofs.courses.ok_is_unset.Reads as ok-is-unset-reads
+
+enum-known-course : tie.Need-enum-known-course
+enum-known-course c = search needs
+
+from-line-three-requires : tie.Need-from-line-three-requires
+from-line-three-requires c κs = search needs
+
+enum-known-course-2 : tie.Need-enum-known-course-2
+enum-known-course-2 c = search needs
+
+data-exchange-requires : tie.Need-data-exchange-requires
+data-exchange-requires c κs = search needs
+
+enum-told : tie.Need-enum-told
+enum-told c = search needs
+
+whole-exchange-requires : tie.Need-whole-exchange-requires
+whole-exchange-requires c κs = search needs
+
+enum-told-2 : tie.Need-enum-told-2
+enum-told-2 c = search needs
+
+whole-exchange-requires-2 : tie.Need-whole-exchange-requires-2
+whole-exchange-requires-2 c κs = search needs
+
+enum-told-3 : tie.Need-enum-told-3
+enum-told-3 c = search needs
+
+whole-exchange-requires-3 : tie.Need-whole-exchange-requires-3
+whole-exchange-requires-3 c κs = search needs
+
+enum-told-4 : tie.Need-enum-told-4
+enum-told-4 c = search needs
+
+ok-is-unset-requires : tie.Need-ok-is-unset-requires
+ok-is-unset-requires c κs = search needs
+
+clear-out-requires : tie.Need-clear-out-requires
+clear-out-requires c κs = search needs
+
+enum-told-5 : tie.Need-enum-told-5
+enum-told-5 c = search needs
+
+enum-told-6 : tie.Need-enum-told-6
+enum-told-6 c = search needs
+
+same-length : tie.Need-same-length
+same-length c = search needs
+
+same-length-2 : tie.Need-same-length-2
+same-length-2 c = search needs
+
+same-length-3 : tie.Need-same-length-3
+same-length-3 c = search needs
+
+returns : tie.Need-returns
+returns c = search needs
+
+same-length-4 : tie.Need-same-length-4
+same-length-4 c = search needs
+
+same-length-5 : tie.Need-same-length-5
+same-length-5 c = search needs
+
+same-length-6 : tie.Need-same-length-6
+same-length-6 c = search needs
+
+returns-2 : tie.Need-returns-2
+returns-2 c = search needs
+
+same-length-7 : tie.Need-same-length-7
+same-length-7 c = search needs
+
+same-length-8 : tie.Need-same-length-8
+same-length-8 c = search needs
+
+same-length-9 : tie.Need-same-length-9
+same-length-9 c = search needs
+
+returns-3 : tie.Need-returns-3
+returns-3 c = search needs
+
+same-length-10 : tie.Need-same-length-10
+same-length-10 c = search needs
+
+same-length-11 : tie.Need-same-length-11
+same-length-11 c = search needs
+
+same-length-12 : tie.Need-same-length-12
+same-length-12 c = search needs
+
+returns-4 : tie.Need-returns-4
+returns-4 c = search needs
+
+same-length-13 : tie.Need-same-length-13
+same-length-13 c = search needs
+
+same-length-14 : tie.Need-same-length-14
+same-length-14 c = search needs
+
+same-length-15 : tie.Need-same-length-15
+same-length-15 c = search needs
+
+returns-5 : tie.Need-returns-5
+returns-5 c = search needs
+
+same-length-16 : tie.Need-same-length-16
+same-length-16 c = search needs
+
+same-length-17 : tie.Need-same-length-17
+same-length-17 c = search needs
+
+returns-6 : tie.Need-returns-6
+returns-6 c = search needs
+
+returns-7 : tie.Need-returns-7
+returns-7 c = search needs
+
+returns-8 : tie.Need-returns-8
+returns-8 c = search needs
+
+pub carry-out-spec : {M : Type 1} → statement M
+carry-out-spec =
+    tie.close
+    (tie.spec
+    enum-known-course
+    from-line-three-requires
+    enum-known-course-2
+    data-exchange-requires
+    enum-told
+    whole-exchange-requires
+    enum-told-2
+    whole-exchange-requires-2
+    enum-told-3
+    whole-exchange-requires-3
+    enum-told-4
+    ok-is-unset-requires
+    clear-out-requires
+    enum-told-5
+    enum-told-6
+    same-length
+    same-length-2
+    same-length-3
+    returns
+    same-length-4
+    same-length-5
+    same-length-6
+    returns-2
+    same-length-7
+    same-length-8
+    same-length-9
+    returns-3
+    same-length-10
+    same-length-11
+    same-length-12
+    returns-4
+    same-length-13
+    same-length-14
+    same-length-15
+    returns-5
+    same-length-16
+    same-length-17
+    returns-6
+    returns-7
+    returns-8)
