@@ -1,6 +1,6 @@
 -- What changes and what does not, while a list is carried out, stopped, or cut with harm.
 use mathlib.Core.Path.{_≡_, refl, ap, _∙_}
-use mathlib.Core.List.{List, [], _∷_, _++_}
+use mathlib.Core.List.{List, [], _∷_, _++_, append-assoc}
 use mathlib.Core.Bool.{Bool, true, false}
 use Prim.Native.Nat.{ℕ, zero, suc, _+_, _*_, _-_, _≤_, _<_}
 use native.Mathlib.Omega.{arith}
@@ -14,7 +14,7 @@ use Rattle.flash.specs.Harm.{Cut}
 use Rattle.trailer.specs.Trailer.{doneAt}
 use Rattle.plan.specs.declared.Course.{Course}
 use Rattle.plan.specs.declared.Course.the-variants.{Damage, Settle, Resume, Test, Permanent, Revert, Clear, Nothing}
-use Rattle.plan.specs.Lists.{clear, settle, dataOps, exchange, erases, clearOut}
+use Rattle.plan.specs.Lists.{clear, progress, begin, settle, moveOps, dataOps, exchange, erases, clearOut}
 use Rattle.plan.specs.Decision.{decide, listOf, okUnset, inForce}
 use Rattle.recovery.specs.All.{All, none, one, all-append, all-map}
 use Rattle.recovery.specs.Windows.{Hidden, wipe, hidden-cut, hidden-erase, all-lengths}
@@ -62,6 +62,9 @@ Only g named f f' = (b : Area) (k : Sector) → Unnamed named b k → sectorOf g
 abbrev pub trailerOf : Build → Area → Place
 trailerOf g a = place a (trailerSector g a)
 
+abbrev pub trailers : Build → List Place
+trailers g = trailerOf g slot0 ∷ trailerOf g slot1 ∷ trailerOf g scratch ∷ []
+
 -- the targets of moves
 unfoldable pub targets : List Move → List Place
 targets [] = []
@@ -76,11 +79,11 @@ places a i (suc k) = place a (sectorNo i) ∷ places a (suc i) k
 -- the moves that are left; slot 0's trailer sector (in it, image ok alone: `clear-out-only`) and slot 1
 unfoldable pub named : Build → Course → List Place
 named g Damage = []
-named g (Settle p) = trailerOf g slot0 ∷ trailerOf g slot1 ∷ trailerOf g scratch ∷ targets (g .moves)
+named g (Settle p) = trailers g ++ targets (g .moves)
 named g (Resume c) = trailerOf g slot0 ∷ targets (drop (c - 3) (g .moves))
-named g Test = trailerOf g slot0 ∷ trailerOf g slot1 ∷ trailerOf g scratch ∷ targets (g .moves)
-named g Permanent = trailerOf g slot0 ∷ trailerOf g slot1 ∷ trailerOf g scratch ∷ targets (g .moves)
-named g Revert = trailerOf g slot0 ∷ trailerOf g slot1 ∷ trailerOf g scratch ∷ targets (g .moves)
+named g Test = trailers g ++ targets (g .moves)
+named g Permanent = trailers g ++ targets (g .moves)
+named g Revert = trailers g ++ targets (g .moves)
 named g Clear = trailerOf g slot0 ∷ trailerOf g slot1 ∷ places slot1 0 (dataSectors g slot1)
 named g Nothing = []
 
@@ -101,16 +104,22 @@ module _ {g : Build} (geo : Geo g) (b : Area) (k : Sector) where
       → All (Hidden g (λ f. sectorOf g f b k)) ops
   noted a e hs = all-map (elsewhere a (trailerSector g a) e) hs
 
-  settle-elsewhere : (p : Bool) → sameSector slot0 (trailerSector g slot0) b k ≡ false
-      → sameSector slot1 (trailerSector g slot1) b k ≡ false
-      → sameSector scratch (trailerSector g scratch) b k ≡ false → All (Hidden g (λ f. sectorOf g f b k)) (settle g p)
+  begin-elsewhere : (p : Bool) → Unnamed (trailers g) b k → All (Hidden g (λ f. sectorOf g f b k)) (begin g p)
+  begin-elsewhere p (one n₀ (one n₁ (one n₂ none))) = noted scratch n₂ (hidden-begin geo p)
+
+  settle-elsewhere : (p : Bool) → Unnamed (trailers g) b k → All (Hidden g (λ f. sectorOf g f b k)) (settle g p)
   unfolding settle
-  settle-elsewhere p n₀ n₁ n₂ =
+  settle-elsewhere p (one n₀ (one n₁ (one n₂ none))) =
       let three : 3 < 3 * g .sectors = three-marks geo in
       one (cleared slot1 n₁) (one (cleared slot0 n₀) (all-append (noted slot0 n₀ (all-append (hidden-ok geo slot0 p)
       (one (hidden-progress geo 0 (omega arith)) (one (hidden-progress geo 1 (omega arith))
       (one (hidden-progress geo 2 (omega arith))
       (hidden-magic geo slot0)))))) (one (cleared scratch n₂) none)))
+
+  move-elsewhere : (c : ℕ) (m : Move) → c < 3 * g .sectors → Unnamed (trailerOf g slot0 ∷ place (m .to) (m .to-sector) ∷ []) b k
+      → All (Hidden g (λ f. sectorOf g f b k)) (moveOps g m ++ (progress g c ∷ []))
+  move-elsewhere c m h (one n₀ (one e none)) =
+      all-append (all-map (elsewhere (m .to) (m .to-sector) e) (hidden-move geo m)) (noted slot0 n₀ (one (hidden-progress geo c h) none))
 
   data-elsewhere : (c : ℕ) (ms : List Move) → c + length ms ≤ 3 * g .sectors → Unnamed (trailerOf g slot0 ∷ targets ms) b k
       → All (Hidden g (λ f. sectorOf g f b k)) (dataOps g c ms)
@@ -118,9 +127,8 @@ module _ {g : Build} (geo : Geo g) (b : Area) (k : Sector) where
   data-elsewhere c [] l (one n₀ n) =
       noted slot0 n₀ (one (hidden-mark geo slot0 (doneAt g) 1 (done-unit geo) (omega (arith, unit-small geo))) none)
   data-elsewhere c (m ∷ ms) l (one n₀ (one e n)) =
-      all-append (all-map (elsewhere (m .to) (m .to-sector) e) (hidden-move geo m))
-      (all-append (noted slot0 n₀ (one (hidden-progress geo c (omega arith)) none))
-      (data-elsewhere (suc c) ms (omega arith) (one n₀ n)))
+      rw (← append-assoc (moveOps g m) (progress g c ∷ []) (dataOps g (suc c) ms))
+      (all-append (move-elsewhere c m (omega arith) (one n₀ (one e none))) (data-elsewhere (suc c) ms (omega arith) (one n₀ n)))
 
   erases-elsewhere : (i r : ℕ) → Unnamed (places slot1 i r) b k → All (Hidden g (λ f. sectorOf g f b k)) (erases slot1 i r)
   unfolding erases places
@@ -130,16 +138,16 @@ module _ {g : Build} (geo : Geo g) (b : Area) (k : Sector) where
       (erases-elsewhere (suc i) r n)
 
   module _ (sound : Sound g) where
-    rest-elsewhere : (p : Bool) → Unnamed (trailerOf g slot0 ∷ trailerOf g slot1 ∷ trailerOf g scratch ∷ targets (g .moves)) b k
+    rest-elsewhere : (p : Bool) → Unnamed (trailers g ++ targets (g .moves)) b k
         → All (Hidden g (λ f. sectorOf g f b k)) (settle g p ++ dataOps g 3 (g .moves))
     rest-elsewhere p (one n₀ (one n₁ (one n₂ n))) =
-        all-append (settle-elsewhere p n₀ n₁ n₂) (data-elsewhere 3 (g .moves) (sound .places) (one n₀ n))
+        all-append (settle-elsewhere p (one n₀ (one n₁ (one n₂ none)))) (data-elsewhere 3 (g .moves) (sound .places) (one n₀ n))
 
-    exchange-elsewhere : (p : Bool) → Unnamed (trailerOf g slot0 ∷ trailerOf g slot1 ∷ trailerOf g scratch ∷ targets (g .moves)) b k
+    exchange-elsewhere : (p : Bool) → Unnamed (trailers g ++ targets (g .moves)) b k
         → All (Hidden g (λ f. sectorOf g f b k)) (exchange g p)
     unfolding exchange
     exchange-elsewhere p (one n₀ (one n₁ (one n₂ n))) =
-        all-append (noted scratch n₂ (hidden-begin geo p)) (rest-elsewhere p (one n₀ (one n₁ (one n₂ n))))
+        all-append (begin-elsewhere p (one n₀ (one n₁ (one n₂ none)))) (rest-elsewhere p (one n₀ (one n₁ (one n₂ n))))
 
     course-elsewhere : (unset : Bool) (course : Course) → ((c : ℕ) → course ≡ Resume c → (3 ≤ c) × (c ≤ 3 + length (g .moves)))
         → Unnamed (named g course) b k → All (Hidden g (λ f. sectorOf g f b k)) (listOf g unset course)
@@ -157,6 +165,16 @@ module _ {g : Build} (geo : Geo g) (b : Area) (k : Sector) where
         all-append (erases-elsewhere 0 (dataSectors g slot1) n)
         (all-append (noted slot0 n₀ (hidden-ok geo slot0 unset)) (one (cleared slot1 n₁) none))
     course-elsewhere unset Nothing h n = none
+
+-- lines 1 to 6 of the trailer exchange: the three trailer sectors
+pub trailer-exchange-only : {g : Build} → Geo g → (p : Bool) {f f' : Flash} → During g (begin g p ++ settle g p) f f'
+    → Only g (trailers g) f f'
+trailer-exchange-only geo p d b k n = unchanged (all-append (begin-elsewhere geo b k p n) (settle-elsewhere geo b k p n)) d
+
+-- a move with its mark: its target, and slot 0's trailer sector
+pub move-only : {g : Build} → Geo g → (c : ℕ) (m : Move) → c < 3 * g .sectors → {f f' : Flash}
+    → During g (moveOps g m ++ (progress g c ∷ [])) f f' → Only g (trailerOf g slot0 ∷ place (m .to) (m .to-sector) ∷ []) f f'
+move-only geo c m h d b k n = unchanged (move-elsewhere geo b k c m h n) d
 
 -- While the list in force is carried out, from any areas, only the sectors that document 01 names for its course change.
 pub in-force-only : (check : List ℕ → Bool) (g : Build) → Sound g → {f f' : Flash} → During g (inForce check g f) f f'

@@ -1,7 +1,7 @@
 -- Sectors as wholes: what stands in which, after a store, and after a list of moves.
 use mathlib.Core.Path.{_≡_, refl, sym, ap, ap₂, _∙_}
 use mathlib.Core.List.{List, [], _∷_, _++_}
-use mathlib.Core.Bool.{Bool, true, false, _&&_, false≢true}
+use mathlib.Core.Bool.{Bool, true, false, _&&_}
 use Prim.Native.Nat.{ℕ, suc, _+_, _*_, _≤_, _<_}
 use native.Mathlib.Nat.{mul-le-mul-right}
 use native.Mathlib.Numerals.{lt-of-le-of-ne}
@@ -10,7 +10,7 @@ use lib.ListN.{take-append-drop, length, length-drop}
 use lib.Dec.{eqb, ltb}
 use borrow.Author.Tests.{eqb-true, eqb-false, ne-eqb, ltb-true, ltb-false}
 use Rattle.spans.specs.Bytes.{part, put, blank}
-use Rattle.spans.specs.Choice.{pick}
+use Rattle.spans.specs.Choice.{pick, both}
 use Rattle.spans.specs.Laws.{length-blank, part-put, part-put-before, part-put-after, pieces}
 use Rattle.flash.specs.declared.Sector.{Sector}
 use Rattle.flash.specs.Geometry.{sectorNo}
@@ -73,11 +73,6 @@ module _ (s : ℕ) (i j : Sector) (o l q : ℕ) (bs : List ℕ) (h : o + l ≤ s
       → part (area a (store b (j .0 * s + q) bs f)) (i .0 * s + o) l ≡ part (area a f) (i .0 * s + o) l
   read-apart a b f e = unseen (λ (xs : List ℕ). part xs (i .0 * s + o) l) b a (j .0 * s + q) bs f
       (λ same. read-else (area a f) (rw same at e))
-
-pub both : (a b : Bool) → (a && b) ≡ true → (a ≡ true) × (b ≡ true)
-both true true h = (refl, refl)
-both true false h = absurd (false≢true h)
-both false b h = absurd (false≢true h)
 
 module _ {g : Build} (geo : Geo g) where
   -- a data sector lies in its area

@@ -8,7 +8,7 @@ use lib.ListN.{length, take, drop, length-drop}
 use lib.Dec.{eqb, ltb, leb}
 use borrow.Author.Tests.{ltb-true, ltb-false, le-ltb, leb-true}
 use Rattle.spans.specs.Bytes.{part, blank}
-use Rattle.spans.specs.Choice.{pick}
+use Rattle.spans.specs.Choice.{pick, both}
 use Rattle.flash.specs.Geometry.{sectorNo}
 use Rattle.flash.specs.Build.{Area, slot0, slot1, scratch, Build, Flash, dataSectors, valid}
 use Rattle.flash.specs.Operations.{erase, apply, runAll}
@@ -23,7 +23,6 @@ use Rattle.recovery.specs.Places.{Geo, Sized}
 use Rattle.recovery.specs.Reading.{unset-blank}
 use Rattle.recovery.specs.Statement.{Sound}
 use Rattle.recovery.specs.Validity.{of-valid}
-use Rattle.recovery.specs.Sectors.{both}
 use Rattle.recovery.specs.Fresh.{Fresh, end, erasing, fresh-append, fresh-ok, fresh-data, fresh-rest, fresh-exchange}
 
 -- ---- what a decision to resume rests on
