@@ -41,8 +41,13 @@ module _ (g : Geometry) where
 
   within-C : (t0 t1 : List ℕ) → Within g (stateC (build g) t0 t1)
   unfolding stateC Within
-  within-C t0 t1 = go _ _ _
+  within-C t0 t1 =
+      go (isGood (magicOf b t1) && isUnset (markOf b t1 (okAt b))) (isGood (magicOf b t1) && hasValue 1 (markOf b t1 (okAt b)))
+      (isGood (magicOf b t0) && (isUnset (markOf b t0 (okAt b)) && (hasValue 1 (markOf b t0 (doneAt b)) && noMagic (magicOf b t1))))
     where
+      b : Build
+      b = build g
+
       go : (a b c : Bool) → Within g (pick a Test (pick b Permanent (pick c Revert Nothing)))
       go true b c = tt
       go false true c = tt

@@ -1,3 +1,12 @@
+use mathlib.Core.Path.{_≡_, sym, ap, subst, _∙_}
+use mathlib.Core.Bool.{Bool}
+use Rattle.flash.specs.Base.{base, build}
+use Rattle.flash.specs.Operations.{steps}
+use Rattle.plan.specs.declared.Course.{Course}
+use Rattle.plan.specs.Decision.{listOf, okUnset}
+use Rattle.plan.specs.Asked.{flashOf}
+use Rattle.carry.specs.Areas.{state}
+use Rattle.carry.specs.Courses.{Within}
 use borrow.Author.Needs.{needs}
 use Rattle.carry.proofs.courses.carry_out.Statement.{statement}
 use Rattle.carry.proofs.courses.carry_out.Tie as tie
@@ -19,7 +28,8 @@ enum-known-course-2 : tie.Need-enum-known-course-2
 enum-known-course-2 c = search needs
 
 data-exchange-requires : tie.Need-data-exchange-requires
-data-exchange-requires c κs = search needs
+unfolding Within
+data-exchange-requires c κs = ?
 
 enum-told : tie.Need-enum-told
 enum-told c = search needs
@@ -64,7 +74,10 @@ same-length-3 : tie.Need-same-length-3
 same-length-3 c = search needs
 
 returns : tie.Need-returns
-returns c = search needs
+unfolding listOf base okUnset
+returns c = 
+    c .before .before .before .before .before .before .from-line-three .ensures
+    ∙ ap (λ (x : Course). steps (build (c .before .before .before .before .before .before .before .before .before .before .before .before .before .before .before .before .args .g)) (listOf (build (c .before .before .before .before .before .before .before .before .before .before .before .before .before .before .before .before .args .g)) (okUnset (build (c .before .before .before .before .before .before .before .before .before .before .before .before .before .before .before .before .args .g)) (flashOf (c .before .before .before .before .before .before .before .before .before .before .before .before .before .before .before .before .args .slot0 .now) (c .before .before .before .before .before .before .before .before .before .before .before .before .before .before .before .before .args .slot1 .now) (c .before .before .before .before .before .before .before .before .before .before .before .before .before .before .before .before .args .scratch .now))) x) (state (c .before .before .before .before .before .before .before .before .before .before .before .before .before .before .before .before .args .slot0 .now) (c .before .before .before .before .before .before .before .before .before .before .before .before .before .before .before .before .args .slot1 .now) (c .before .before .before .before .before .before .before .before .before .before .before .before .before .before .before .before .args .scratch .now) (c .before .before .before .before .before .before .before .before .before .before .before .before .before .before .before .before .args .run))) (sym (c .before .before .before .before .before .before .before .before .before .before .known-told .given .1))
 
 same-length-4 : tie.Need-same-length-4
 same-length-4 c = search needs
@@ -76,7 +89,10 @@ same-length-6 : tie.Need-same-length-6
 same-length-6 c = search needs
 
 returns-2 : tie.Need-returns-2
-returns-2 c = search needs
+unfolding listOf base okUnset
+returns-2 c = 
+    c .before .before .before .before .before .before .data-exchange .ensures
+    ∙ ap (λ (x : Course). steps (build (c .before .before .before .before .before .before .before .before .before .before .before .before .before .before .before .before .args .g)) (listOf (build (c .before .before .before .before .before .before .before .before .before .before .before .before .before .before .before .before .args .g)) (okUnset (build (c .before .before .before .before .before .before .before .before .before .before .before .before .before .before .before .before .args .g)) (flashOf (c .before .before .before .before .before .before .before .before .before .before .before .before .before .before .before .before .args .slot0 .now) (c .before .before .before .before .before .before .before .before .before .before .before .before .before .before .before .before .args .slot1 .now) (c .before .before .before .before .before .before .before .before .before .before .before .before .before .before .before .before .args .scratch .now))) x) (state (c .before .before .before .before .before .before .before .before .before .before .before .before .before .before .before .before .args .slot0 .now) (c .before .before .before .before .before .before .before .before .before .before .before .before .before .before .before .before .args .slot1 .now) (c .before .before .before .before .before .before .before .before .before .before .before .before .before .before .before .before .args .scratch .now) (c .before .before .before .before .before .before .before .before .before .before .before .before .before .before .before .before .args .run))) (sym (c .before .before .before .before .before .before .before .before .before .before .known-told2 .given .1))
 
 same-length-7 : tie.Need-same-length-7
 same-length-7 c = search needs
@@ -88,7 +104,10 @@ same-length-9 : tie.Need-same-length-9
 same-length-9 c = search needs
 
 returns-3 : tie.Need-returns-3
-returns-3 c = search needs
+unfolding listOf base okUnset
+returns-3 c = 
+    c .before .before .before .before .before .before .whole-exchange .ensures
+    ∙ ap (λ (x : Course). steps (build (c .before .before .before .before .before .before .before .before .before .before .before .before .before .before .before .args .g)) (listOf (build (c .before .before .before .before .before .before .before .before .before .before .before .before .before .before .before .args .g)) (okUnset (build (c .before .before .before .before .before .before .before .before .before .before .before .before .before .before .before .args .g)) (flashOf (c .before .before .before .before .before .before .before .before .before .before .before .before .before .before .before .args .slot0 .now) (c .before .before .before .before .before .before .before .before .before .before .before .before .before .before .before .args .slot1 .now) (c .before .before .before .before .before .before .before .before .before .before .before .before .before .before .before .args .scratch .now))) x) (state (c .before .before .before .before .before .before .before .before .before .before .before .before .before .before .before .args .slot0 .now) (c .before .before .before .before .before .before .before .before .before .before .before .before .before .before .before .args .slot1 .now) (c .before .before .before .before .before .before .before .before .before .before .before .before .before .before .before .args .scratch .now) (c .before .before .before .before .before .before .before .before .before .before .before .before .before .before .before .args .run))) (sym (c .before .before .before .before .before .before .before .before .before .before .enum-told .given .1))
 
 same-length-10 : tie.Need-same-length-10
 same-length-10 c = search needs
@@ -100,7 +119,10 @@ same-length-12 : tie.Need-same-length-12
 same-length-12 c = search needs
 
 returns-4 : tie.Need-returns-4
-returns-4 c = search needs
+unfolding listOf base okUnset
+returns-4 c = 
+    c .before .before .before .before .before .before .whole-exchange2 .ensures
+    ∙ ap (λ (x : Course). steps (build (c .before .before .before .before .before .before .before .before .before .before .before .before .before .before .before .args .g)) (listOf (build (c .before .before .before .before .before .before .before .before .before .before .before .before .before .before .before .args .g)) (okUnset (build (c .before .before .before .before .before .before .before .before .before .before .before .before .before .before .before .args .g)) (flashOf (c .before .before .before .before .before .before .before .before .before .before .before .before .before .before .before .args .slot0 .now) (c .before .before .before .before .before .before .before .before .before .before .before .before .before .before .before .args .slot1 .now) (c .before .before .before .before .before .before .before .before .before .before .before .before .before .before .before .args .scratch .now))) x) (state (c .before .before .before .before .before .before .before .before .before .before .before .before .before .before .before .args .slot0 .now) (c .before .before .before .before .before .before .before .before .before .before .before .before .before .before .before .args .slot1 .now) (c .before .before .before .before .before .before .before .before .before .before .before .before .before .before .before .args .scratch .now) (c .before .before .before .before .before .before .before .before .before .before .before .before .before .before .before .args .run))) (sym (c .before .before .before .before .before .before .before .before .before .before .enum-told2 .given .1))
 
 same-length-13 : tie.Need-same-length-13
 same-length-13 c = search needs
@@ -112,7 +134,10 @@ same-length-15 : tie.Need-same-length-15
 same-length-15 c = search needs
 
 returns-5 : tie.Need-returns-5
-returns-5 c = search needs
+unfolding listOf base okUnset
+returns-5 c = 
+    c .before .before .before .before .before .before .whole-exchange3 .ensures
+    ∙ ap (λ (x : Course). steps (build (c .before .before .before .before .before .before .before .before .before .before .before .before .before .before .before .args .g)) (listOf (build (c .before .before .before .before .before .before .before .before .before .before .before .before .before .before .before .args .g)) (okUnset (build (c .before .before .before .before .before .before .before .before .before .before .before .before .before .before .before .args .g)) (flashOf (c .before .before .before .before .before .before .before .before .before .before .before .before .before .before .before .args .slot0 .now) (c .before .before .before .before .before .before .before .before .before .before .before .before .before .before .before .args .slot1 .now) (c .before .before .before .before .before .before .before .before .before .before .before .before .before .before .before .args .scratch .now))) x) (state (c .before .before .before .before .before .before .before .before .before .before .before .before .before .before .before .args .slot0 .now) (c .before .before .before .before .before .before .before .before .before .before .before .before .before .before .before .args .slot1 .now) (c .before .before .before .before .before .before .before .before .before .before .before .before .before .before .before .args .scratch .now) (c .before .before .before .before .before .before .before .before .before .before .before .before .before .before .before .args .run))) (sym (c .before .before .before .before .before .before .before .before .before .before .enum-told3 .given .1))
 
 same-length-16 : tie.Need-same-length-16
 same-length-16 c = search needs
@@ -121,13 +146,15 @@ same-length-17 : tie.Need-same-length-17
 same-length-17 c = search needs
 
 returns-6 : tie.Need-returns-6
-returns-6 c = search needs
+returns-6 c = ?
 
 returns-7 : tie.Need-returns-7
-returns-7 c = search needs
+unfolding listOf steps
+returns-7 c = ap (λ (x : Course). steps (build (c .before .before .before .before .before .args .g)) (listOf (build (c .before .before .before .before .before .args .g)) (okUnset (build (c .before .before .before .before .before .args .g)) (flashOf (c .before .before .before .before .before .args .slot0 .now) (c .before .before .before .before .before .args .slot1 .now) (c .before .before .before .before .before .args .scratch .now))) x) (state (c .before .before .before .before .before .args .slot0 .now) (c .before .before .before .before .before .args .slot1 .now) (c .before .before .before .before .before .args .scratch .now) (c .before .before .before .before .before .args .run))) (sym (c .enum-told5 .given .1))
 
 returns-8 : tie.Need-returns-8
-returns-8 c = search needs
+unfolding listOf steps
+returns-8 c = ap (λ (x : Course). steps (build (c .before .before .before .before .before .args .g)) (listOf (build (c .before .before .before .before .before .args .g)) (okUnset (build (c .before .before .before .before .before .args .g)) (flashOf (c .before .before .before .before .before .args .slot0 .now) (c .before .before .before .before .before .args .slot1 .now) (c .before .before .before .before .before .args .scratch .now))) x) (state (c .before .before .before .before .before .args .slot0 .now) (c .before .before .before .before .before .args .slot1 .now) (c .before .before .before .before .before .args .scratch .now) (c .before .before .before .before .before .args .run))) (sym (c .enum-told6 .given .1))
 
 pub carry-out-spec : {M : Type 1} → statement M
 carry-out-spec =
