@@ -28,7 +28,8 @@ returns c =
     let t2 = c .before .scratch-trailer in
     let g = build (c .before .before .before .before .before .before .before .args .g) in
     c .asks-trailers .ensures
-    ∙ ap₂ (λ (xs ys : List ℕ). asks g xs ys (t2 .result .now)) (t0 .ensures) (t1 .ensures) ∙ ap (asks g _ _) (t2 .ensures)
+    ∙ ap₂ (λ (xs ys : List ℕ). asks g xs ys (t2 .result .now)) (t0 .ensures) (t1 .ensures)
+    ∙ ap (asks g _ _) (t2 .ensures)
 
 pub asks-spec : {M : Type 1} → statement M
 asks-spec =
