@@ -5,19 +5,19 @@ use mathlib.Core.List.{List}
 use mathlib.Core.Bool.{Bool, true, false, _&&_}
 use Prim.Native.Nat.{ℕ, zero, suc, _+_, _*_, _-_, _≤_, _<_}
 use native.Mathlib.Omega.{arith}
-use lib.ListN.{length}
+use lib.ListN.{length, take}
 use lib.Dec.{eqb, leb}
 use borrow.Author.Tests.{eq-eqb, ne-eqb, le-leb, lt-leb}
 use Rattle.spans.specs.Choice.{pick}
 use Rattle.flash.specs.declared.Geometry.{Geometry}
-use Rattle.flash.specs.Build.{Build}
+use Rattle.flash.specs.Build.{slot0, slot1, scratch, Build, Flash}
 use Rattle.flash.specs.Base.{threeMoves, allMoves, base, build}
 use Rattle.flash.specs.Small.{Small}
-use Rattle.trailer.specs.Trailer.{okAt, doneAt, magicOf, isGood, noMagic, markOf, isUnset, hasValue, legal}
+use Rattle.trailer.specs.Trailer.{trailer, okAt, doneAt, magicOf, isGood, noMagic, markOf, isUnset, hasValue, legal}
 use Rattle.plan.specs.declared.Course.{Course}
 use Rattle.plan.specs.declared.Course.the-variants.{Damage, Settle, Resume, Test, Permanent, Revert, Clear, Nothing}
-use Rattle.plan.specs.Decision.{continue, judged}
-use Rattle.plan.specs.Asked.{asksCheck}
+use Rattle.plan.specs.Decision.{continue, asks, judged, decide}
+use Rattle.plan.specs.Asked.{askedBy, asksCheck}
 
 -- ---- the tests of B and C by name
 
@@ -113,3 +113,18 @@ rejected-course Permanent h = refl
 rejected-course Revert h = refl
 rejected-course Clear h = refl
 rejected-course Nothing h = cc
+
+-- the decision of the base, as code comes to it: first what the trailers ask for, then the check where it is asked for
+pub decide-checked : (check : List ℕ → Bool) (g : Geometry) (f : Flash)
+    → decide check (build g) f ≡ judged (check (take ((g .sectors - 1) * g .sector) (f .in1))) (askedBy g f)
+unfolding decide base
+decide-checked check g f = refl
+
+pub decide-unchecked : (check : List ℕ → Bool) (g : Geometry) (f : Flash) → asksCheck (askedBy g f) ≡ false
+    → decide check (build g) f ≡ askedBy g f
+unfolding decide
+decide-unchecked check g f h = unchecked-course (check (take (build g .lent * build g .sector) (f .in1))) (askedBy g f) h
+
+pub asked-by : (g : Geometry) (f : Flash) (t0 t1 t2 : List ℕ) → t0 ≡ trailer (build g) slot0 f → t1 ≡ trailer (build g) slot1 f
+    → t2 ≡ trailer (build g) scratch f → asks (build g) t0 t1 t2 ≡ askedBy g f
+asked-by g f t0 t1 t2 p q r = rw (p, q, r)

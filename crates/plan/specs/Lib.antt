@@ -2,3 +2,4 @@ pub mod Lists
 pub mod Decision
 pub mod Asked
 pub mod DecisionLaws
+pub mod Bounds
