@@ -1,5 +1,5 @@
--- What the code of A, B and C is promised against: the decision over the bytes of the three areas, and which courses ask for the image check.
-use mathlib.Core.Path.{_≡_, refl}
+-- What the code of A, B and C is promised against: the decision over the bytes of the three areas,
+-- and which courses ask for the image check.
 use mathlib.Core.List.{List}
 use mathlib.Core.Bool.{Bool, true, false}
 use Prim.Native.Nat.{ℕ}
@@ -9,7 +9,7 @@ use Rattle.flash.specs.Base.{build}
 use Rattle.trailer.specs.Trailer.{trailer}
 use Rattle.plan.specs.declared.Course.{Course}
 use Rattle.plan.specs.declared.Course.the-variants.{Damage, Settle, Resume, Test, Permanent, Revert, Clear, Nothing}
-use Rattle.plan.specs.Decision.{asks, judged}
+use Rattle.plan.specs.Decision.{asks}
 
 abbrev pub flashOf : List ℕ → List ℕ → List ℕ → Flash
 flashOf xs ys zs = record { in0 = xs; in1 = ys; in2 = zs }
@@ -28,39 +28,3 @@ asksCheck Permanent = true
 asksCheck Revert = true
 asksCheck Clear = false
 asksCheck Nothing = false
-
--- ---- what the check's answer changes
-
-pub accepted-course : (c : Course) → judged true c ≡ c
-unfolding judged
-accepted-course Damage = refl
-accepted-course (Settle p) = refl
-accepted-course (Resume c) = refl
-accepted-course Test = refl
-accepted-course Permanent = refl
-accepted-course Revert = refl
-accepted-course Clear = refl
-accepted-course Nothing = refl
-
--- where the check is not asked for, its answer changes nothing
-pub unchecked-course : (accepted : Bool) (c : Course) → asksCheck c ≡ false → judged accepted c ≡ c
-unfolding asksCheck judged
-unchecked-course accepted Damage h = refl
-unchecked-course accepted (Settle p) h = refl
-unchecked-course accepted (Resume c) h = refl
-unchecked-course accepted Test h = cc
-unchecked-course accepted Permanent h = cc
-unchecked-course accepted Revert h = cc
-unchecked-course accepted Clear h = refl
-unchecked-course accepted Nothing h = refl
-
-pub rejected-course : (c : Course) → asksCheck c ≡ true → judged false c ≡ Clear
-unfolding asksCheck judged
-rejected-course Damage h = cc
-rejected-course (Settle p) h = cc
-rejected-course (Resume c) h = cc
-rejected-course Test h = refl
-rejected-course Permanent h = refl
-rejected-course Revert h = refl
-rejected-course Clear h = refl
-rejected-course Nothing h = cc

@@ -1,20 +1,23 @@
--- Laws for the code of B: the number of moves of the base, and B's answer by tests on the number of marks.
+-- Laws for the code of B and C: the tests by name, the number of moves of the base, B by the number of marks, and what the check
+-- of the image changes.
 use mathlib.Core.Path.{_≡_, refl}
 use mathlib.Core.List.{List}
 use mathlib.Core.Bool.{Bool, true, false, _&&_}
 use Prim.Native.Nat.{ℕ, zero, suc, _+_, _*_, _-_, _≤_, _<_}
 use native.Mathlib.Omega.{arith}
-use lib.ListN.{length}
+use lib.ListN.{length, take}
 use lib.Dec.{eqb, leb}
 use borrow.Author.Tests.{eq-eqb, ne-eqb, le-leb, lt-leb}
 use Rattle.spans.specs.Choice.{pick}
 use Rattle.flash.specs.declared.Geometry.{Geometry}
-use Rattle.flash.specs.Build.{Build}
+use Rattle.flash.specs.Build.{slot0, slot1, scratch, Build, Flash}
 use Rattle.flash.specs.Base.{threeMoves, allMoves, base, build}
 use Rattle.flash.specs.Small.{Small}
-use Rattle.trailer.specs.Trailer.{okAt, doneAt, magicOf, isGood, noMagic, markOf, isUnset, hasValue, legal}
+use Rattle.trailer.specs.Trailer.{trailer, okAt, doneAt, magicOf, isGood, noMagic, markOf, isUnset, hasValue, legal}
 use Rattle.plan.specs.declared.Course.{Course}
-use Rattle.plan.specs.Decision.{continue}
+use Rattle.plan.specs.declared.Course.the-variants.{Damage, Settle, Resume, Test, Permanent, Revert, Clear, Nothing}
+use Rattle.plan.specs.Decision.{continue, asks, judged, decide}
+use Rattle.plan.specs.Asked.{askedBy, asksCheck}
 
 -- ---- the tests of B and C by name
 
@@ -45,7 +48,8 @@ most-marks g small = omega (arith, length-moves (g .sectors - 1))
 
 -- B's answer where the run is legal
 unfoldable pub followed : Build → ℕ → Course → Course
-followed g c otherwise = pick (eqb c 0) otherwise (pick (leb 3 c && leb c (3 + length (g .moves))) (Course.Resume c) Course.Damage)
+followed g c otherwise =
+    pick (eqb c 0) otherwise (pick (leb 3 c && leb c (3 + length (g .moves))) (Resume c) Damage)
 
 pub continue-legal : (g : Build) (t0 : List ℕ) (c : ℕ) (otherwise : Course) → legal g t0 c 0 (3 * g .sectors) ≡ true
     → continue g t0 c otherwise ≡ followed g c otherwise
@@ -53,7 +57,7 @@ unfolding continue followed
 continue-legal g t0 c otherwise h = rw h
 
 pub continue-damage : (g : Build) (t0 : List ℕ) (c : ℕ) (otherwise : Course) → legal g t0 c 0 (3 * g .sectors) ≡ false
-    → continue g t0 c otherwise ≡ Course.Damage
+    → continue g t0 c otherwise ≡ Damage
 unfolding continue
 continue-damage g t0 c otherwise h = rw h
 
@@ -62,14 +66,65 @@ module _ (g : Build) (c : ℕ) (otherwise : Course) where
   unfolding followed
   none-marked h = rw (eq-eqb c 0 h)
 
-  pub too-few : (c ≡ 0 → ⊥) → c < 3 → followed g c otherwise ≡ Course.Damage
+  pub too-few : (c ≡ 0 → ⊥) → c < 3 → followed g c otherwise ≡ Damage
   unfolding followed
   too-few h l = rw (ne-eqb c 0 h, lt-leb 3 c l)
 
-  pub marks-enough : (c ≡ 0 → ⊥) → 3 ≤ c → c ≤ 3 + length (g .moves) → followed g c otherwise ≡ Course.Resume c
+  pub marks-enough : (c ≡ 0 → ⊥) → 3 ≤ c → c ≤ 3 + length (g .moves) → followed g c otherwise ≡ Resume c
   unfolding followed
   marks-enough h l m = rw (ne-eqb c 0 h, le-leb 3 c l, le-leb c (3 + length (g .moves)) m)
 
-  pub too-many : (c ≡ 0 → ⊥) → 3 ≤ c → 3 + length (g .moves) < c → followed g c otherwise ≡ Course.Damage
+  pub too-many : (c ≡ 0 → ⊥) → 3 ≤ c → 3 + length (g .moves) < c → followed g c otherwise ≡ Damage
   unfolding followed
   too-many h l m = rw (ne-eqb c 0 h, le-leb 3 c l, lt-leb c (3 + length (g .moves)) m)
+
+-- ---- what the check's answer changes
+
+pub accepted-course : (c : Course) → judged true c ≡ c
+unfolding judged
+accepted-course Damage = refl
+accepted-course (Settle p) = refl
+accepted-course (Resume c) = refl
+accepted-course Test = refl
+accepted-course Permanent = refl
+accepted-course Revert = refl
+accepted-course Clear = refl
+accepted-course Nothing = refl
+
+-- where the check is not asked for, its answer changes nothing
+pub unchecked-course : (accepted : Bool) (c : Course) → asksCheck c ≡ false → judged accepted c ≡ c
+unfolding asksCheck judged
+unchecked-course accepted Damage h = refl
+unchecked-course accepted (Settle p) h = refl
+unchecked-course accepted (Resume c) h = refl
+unchecked-course accepted Test h = cc
+unchecked-course accepted Permanent h = cc
+unchecked-course accepted Revert h = cc
+unchecked-course accepted Clear h = refl
+unchecked-course accepted Nothing h = refl
+
+pub rejected-course : (c : Course) → asksCheck c ≡ true → judged false c ≡ Clear
+unfolding asksCheck judged
+rejected-course Damage h = cc
+rejected-course (Settle p) h = cc
+rejected-course (Resume c) h = cc
+rejected-course Test h = refl
+rejected-course Permanent h = refl
+rejected-course Revert h = refl
+rejected-course Clear h = refl
+rejected-course Nothing h = cc
+
+-- the decision of the base, as code comes to it: first what the trailers ask for, then the check where it is asked for
+pub decide-checked : (check : List ℕ → Bool) (g : Geometry) (f : Flash)
+    → decide check (build g) f ≡ judged (check (take ((g .sectors - 1) * g .sector) (f .in1))) (askedBy g f)
+unfolding decide base
+decide-checked check g f = refl
+
+pub decide-unchecked : (check : List ℕ → Bool) (g : Geometry) (f : Flash) → asksCheck (askedBy g f) ≡ false
+    → decide check (build g) f ≡ askedBy g f
+unfolding decide
+decide-unchecked check g f h = unchecked-course (check (take (build g .lent * build g .sector) (f .in1))) (askedBy g f) h
+
+pub asked-by : (g : Geometry) (f : Flash) (t0 t1 t2 : List ℕ) → t0 ≡ trailer (build g) slot0 f → t1 ≡ trailer (build g) slot1 f
+    → t2 ≡ trailer (build g) scratch f → asks (build g) t0 t1 t2 ≡ askedBy g f
+asked-by g f t0 t1 t2 p q r = rw (p, q, r)

@@ -4,3 +4,4 @@ pub mod Examples
 pub mod Order
 pub mod Asked
 pub mod DecisionLaws
+pub mod Bounds

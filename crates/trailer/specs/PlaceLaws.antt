@@ -1,5 +1,5 @@
 -- The progress marks stand within a trailer sector.
-use Prim.Native.Nat.{ℕ, _*_, _-_, _≤_}
+use Prim.Native.Nat.{ℕ, _*_, _≤_}
 use native.Mathlib.Nat.{mul-le-mul-right}
 use native.Mathlib.Omega.{arith}
 use Rattle.flash.specs.declared.Geometry.{Geometry}

@@ -77,10 +77,12 @@ module _ (g : Build) (t : List ℕ) (at : Offset) (want : List ℕ) (place : at 
   unset-at : same (part t (at .0) 16) (blank 16) ≡ same (part t (magicAt g .0) 16) (blank 16)
   unset-at = ap (λ (o : Offset). same (part t (o .0) 16) (blank 16)) place
 
-  pub magic-unset : same (part t (at .0) (length want)) want ≡ false → same (part t (at .0) 16) (blank 16) ≡ true → Magic.Unset ≡ magicOf g t
+  pub magic-unset : same (part t (at .0) (length want)) want ≡ false → same (part t (at .0) 16) (blank 16) ≡ true
+      → Magic.Unset ≡ magicOf g t
   unfolding magicOf
   magic-unset h u = rw (sym good-at ∙ h, sym unset-at ∙ u)
 
-  pub magic-bad : same (part t (at .0) (length want)) want ≡ false → same (part t (at .0) 16) (blank 16) ≡ false → Magic.Bad ≡ magicOf g t
+  pub magic-bad : same (part t (at .0) (length want)) want ≡ false → same (part t (at .0) 16) (blank 16) ≡ false
+      → Magic.Bad ≡ magicOf g t
   unfolding magicOf
   magic-bad h u = rw (sym good-at ∙ h, sym unset-at ∙ u)

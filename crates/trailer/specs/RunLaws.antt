@@ -25,7 +25,8 @@ module _ (g : Build) (t : List ℕ) (n k : ℕ) where
       let e : n - k ≡ suc (n - (k + 1)) = omega arith in
       ap (written g t k) e ∙ ap (λ (b : Bool). pick b 0 (suc (written g t (suc k) (n - (k + 1))))) u
 
-  written-more : k < n → isUnset (markOf g t (markAt g k)) ≡ false → written g t k (n - k) ≡ suc (written g t (k + 1) (n - (k + 1)))
+  written-more : k < n → isUnset (markOf g t (markAt g k)) ≡ false
+      → written g t k (n - k) ≡ suc (written g t (k + 1) (n - (k + 1)))
   unfolding written
   written-more h u =
       let e : n - k ≡ suc (n - (k + 1)) = omega arith in
@@ -61,5 +62,6 @@ module _ (g : Build) (t : List ℕ) (n k : ℕ) where
 pub counted-start : (g : Build) (t : List ℕ) (n : ℕ) → Counted g t n 0
 counted-start g t n = let e : n - 0 ≡ n = omega arith in omega (arith, ap (written g t 0) e)
 
-pub counted-more : (g : Build) (t : List ℕ) (n k : ℕ) → Counted g t n k → k < n → isUnset (markOf g t (markAt g k)) ≡ false → Counted g t n (k + 1)
+pub counted-more : (g : Build) (t : List ℕ) (n k : ℕ) → Counted g t n k → k < n
+    → isUnset (markOf g t (markAt g k)) ≡ false → Counted g t n (k + 1)
 counted-more g t n k i h u = omega (arith, i, written-more g t n k h u)

@@ -1,9 +1,8 @@
-use mathlib.Core.Path.{ap, ap₂, _∙_}
-use mathlib.Core.List.{List}
-use Prim.Native.Nat.{ℕ}
-use Rattle.flash.specs.Base.{base, build}
+use mathlib.Core.Path.{_∙_}
+use Rattle.flash.specs.Base.{base}
 use Rattle.trailer.specs.Trailer.{trailer}
-use Rattle.plan.specs.Decision.{asks}
+use Rattle.plan.specs.Asked.{flashOf}
+use Rattle.plan.specs.DecisionLaws.{asked-by}
 use borrow.Author.Needs.{needs}
 use Rattle.plan.proofs.decision.asks.Statement.{statement}
 use Rattle.plan.proofs.decision.asks.Tie as tie
@@ -23,12 +22,10 @@ asks-trailers-requires c κs = search needs
 returns : tie.Need-returns
 unfolding base trailer
 returns c =
-    let t0 = c .before .before .before .slot-trailer in
-    let t1 = c .before .before .slot-trailer2 in
-    let t2 = c .before .scratch-trailer in
-    let g = build (c .before .before .before .before .before .before .before .args .g) in
+    let a = c .before .before .before .before .before .before .before .args in
     c .asks-trailers .ensures
-    ∙ ap₂ (λ (xs ys : List ℕ). asks g xs ys (t2 .result .now)) (t0 .ensures) (t1 .ensures) ∙ ap (asks g _ _) (t2 .ensures)
+    ∙ asked-by (a .g) (flashOf (a .slot0 .now) (a .slot1 .now) (a .scratch .now)) _ _ _
+    (c .before .before .before .slot-trailer .ensures) (c .before .before .slot-trailer2 .ensures) (c .before .scratch-trailer .ensures)
 
 pub asks-spec : {M : Type 1} → statement M
 asks-spec =

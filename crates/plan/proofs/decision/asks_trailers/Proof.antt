@@ -25,7 +25,8 @@ returns-2 : tie.Need-returns-2
 unfolding asks
 returns-2 c =
     let a = c .before .before .before .before .before .before .before .args in
-    rw (sym (c .before .before .before .magic-good .ensures) ∙ c .before .before .if1 .left) (c .step-b .ensures ∙ ap (stepB (build (a .g)) (a .t0 .now)) (c .before .state-c .ensures))
+    let not-good = sym (c .before .before .before .magic-good .ensures) ∙ c .before .before .if1 .left in
+    rw not-good (c .step-b .ensures ∙ ap (stepB (build (a .g)) (a .t0 .now)) (c .before .state-c .ensures))
 
 pub asks-trailers-spec : {M : Type 1} → statement M
 asks-trailers-spec =

@@ -15,13 +15,15 @@ returns : tie.Need-returns
 unfolding base
 returns c =
     let a = c .before .before .before .before .args in
-    c .follow .ensures ∙ sym (continue-legal (build (a .g)) (a .t0 .now) (a .c) (a .otherwise) (sym (c .before .before .legal-run .ensures) ∙ c .before .if1 .taken))
+    let legal = sym (c .before .before .legal-run .ensures) ∙ c .before .if1 .taken in
+    c .follow .ensures ∙ sym (continue-legal (build (a .g)) (a .t0 .now) (a .c) (a .otherwise) legal)
 
 returns-2 : tie.Need-returns-2
 unfolding base
 returns-2 c =
     let a = c .before .before .before .args in
-    sym (continue-damage (build (a .g)) (a .t0 .now) (a .c) (a .otherwise) (sym (c .before .legal-run .ensures) ∙ c .if1 .left))
+    let illegal = sym (c .before .legal-run .ensures) ∙ c .if1 .left in
+    sym (continue-damage (build (a .g)) (a .t0 .now) (a .c) (a .otherwise) illegal)
 
 pub continue-run-spec : {M : Type 1} → statement M
 continue-run-spec = tie.close (tie.spec legal-run-requires follow-requires returns returns-2)

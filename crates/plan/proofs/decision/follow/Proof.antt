@@ -23,13 +23,15 @@ returns-3 : tie.Need-returns-3
 returns-3 c =
     let a = c .before .before .before .before .args in
     let most = most-marks (a .g) (c .before .before .before .before .pre) in
-    sym (marks-enough (build (a .g)) (a .c) (a .otherwise) (c .before .before .before .if1 .left) (omega arith) (omega (arith, most, c .if3 .taken)))
+    let some = c .before .before .before .if1 .left in
+    sym (marks-enough (build (a .g)) (a .c) (a .otherwise) some (omega arith) (omega (arith, most, c .if3 .taken)))
 
 returns-4 : tie.Need-returns-4
 returns-4 c =
     let a = c .before .before .before .before .args in
     let most = most-marks (a .g) (c .before .before .before .before .pre) in
-    sym (too-many (build (a .g)) (a .c) (a .otherwise) (c .before .before .before .if1 .left) (omega arith) (omega (arith, most, c .if3 .left)))
+    let some = c .before .before .before .if1 .left in
+    sym (too-many (build (a .g)) (a .c) (a .otherwise) some (omega arith) (omega (arith, most, c .if3 .left)))
 
 pub follow-spec : {M : Type 1} → statement M
 follow-spec = tie.close (tie.spec returns returns-2 mul-if3 returns-3 returns-4)

@@ -16,13 +16,24 @@ magic-unset-requires : tie.Need-magic-unset-requires
 magic-unset-requires c κs = search needs
 
 returns : tie.Need-returns
-returns c = rw (sym (c .before .before .before .before .before .before .magic-good .ensures) ∙ c .before .before .before .before .before .if1 .taken, sym (c .before .before .before .before .ok-unset .ensures) ∙ c .before .before .before .if2 .taken, sym (c .before .before .done-set .ensures) ∙ c .before .if3 .taken) (c .magic-unset .ensures)
+returns c =
+    let good = sym (c .before .before .before .before .before .before .magic-good .ensures) ∙ c .before .before .before .before .before .if1 .taken in
+    let ok = sym (c .before .before .before .before .ok-unset .ensures) ∙ c .before .before .before .if2 .taken in
+    let done = sym (c .before .before .done-set .ensures) ∙ c .before .if3 .taken in
+    rw (good, ok, done) (c .magic-unset .ensures)
 
 returns-2 : tie.Need-returns-2
-returns-2 c = rw (sym (c .before .before .before .before .before .magic-good .ensures) ∙ c .before .before .before .before .if1 .taken, sym (c .before .before .before .ok-unset .ensures) ∙ c .before .before .if2 .taken, sym (c .before .done-set .ensures) ∙ c .if3 .left)
+returns-2 c =
+    let good = sym (c .before .before .before .before .before .magic-good .ensures) ∙ c .before .before .before .before .if1 .taken in
+    let ok = sym (c .before .before .before .ok-unset .ensures) ∙ c .before .before .if2 .taken in
+    let done = sym (c .before .done-set .ensures) ∙ c .if3 .left in
+    rw (good, ok, done)
 
 returns-3 : tie.Need-returns-3
-returns-3 c = rw (sym (c .before .before .before .magic-good .ensures) ∙ c .before .before .if1 .taken, sym (c .before .ok-unset .ensures) ∙ c .if2 .left)
+returns-3 c =
+    let good = sym (c .before .before .before .magic-good .ensures) ∙ c .before .before .if1 .taken in
+    let ok = sym (c .before .ok-unset .ensures) ∙ c .if2 .left in
+    rw (good, ok)
 
 returns-4 : tie.Need-returns-4
 returns-4 c = rw (sym (c .before .magic-good .ensures) ∙ c .if1 .left)

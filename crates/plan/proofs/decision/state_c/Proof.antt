@@ -16,18 +16,29 @@ for-good-requires c κs = search needs
 
 returns-2 : tie.Need-returns-2
 unfolding stateC
-returns-2 c = rw (sym (c .before .before .before .for-test .ensures) ∙ c .before .before .if1 .left, sym (c .before .for-good .ensures) ∙ c .if2 .taken)
+returns-2 c =
+    let state-I = sym (c .before .before .before .for-test .ensures) ∙ c .before .before .if1 .left in
+    let state-II = sym (c .before .for-good .ensures) ∙ c .if2 .taken in
+    rw (state-I, state-II)
 
 for-revert-requires : tie.Need-for-revert-requires
 for-revert-requires c κs = search needs
 
 returns-3 : tie.Need-returns-3
 unfolding stateC
-returns-3 c = rw (sym (c .before .before .before .before .before .for-test .ensures) ∙ c .before .before .before .before .if1 .left, sym (c .before .before .before .for-good .ensures) ∙ c .before .before .if2 .left, sym (c .before .for-revert .ensures) ∙ c .if3 .taken)
+returns-3 c =
+    let state-I = sym (c .before .before .before .before .before .for-test .ensures) ∙ c .before .before .before .before .if1 .left in
+    let state-II = sym (c .before .before .before .for-good .ensures) ∙ c .before .before .if2 .left in
+    let state-III = sym (c .before .for-revert .ensures) ∙ c .if3 .taken in
+    rw (state-I, state-II, state-III)
 
 returns-4 : tie.Need-returns-4
 unfolding stateC
-returns-4 c = rw (sym (c .before .before .before .before .before .for-test .ensures) ∙ c .before .before .before .before .if1 .left, sym (c .before .before .before .for-good .ensures) ∙ c .before .before .if2 .left, sym (c .before .for-revert .ensures) ∙ c .if3 .left)
+returns-4 c =
+    let state-I = sym (c .before .before .before .before .before .for-test .ensures) ∙ c .before .before .before .before .if1 .left in
+    let state-II = sym (c .before .before .before .for-good .ensures) ∙ c .before .before .if2 .left in
+    let state-III = sym (c .before .for-revert .ensures) ∙ c .if3 .left in
+    rw (state-I, state-II, state-III)
 
 pub state-c-spec : {M : Type 1} → statement M
 state-c-spec =

@@ -16,11 +16,17 @@ ok-set-requires c κs = search needs
 
 returns-2 : tie.Need-returns-2
 unfolding stepA
-returns-2 c = rw (sym (c .before .before .before .ok-unset .ensures) ∙ c .before .before .if1 .left, sym (c .before .ok-set .ensures) ∙ c .if2 .taken)
+returns-2 c =
+    let not-unset = sym (c .before .before .before .ok-unset .ensures) ∙ c .before .before .if1 .left in
+    let is-01 = sym (c .before .ok-set .ensures) ∙ c .if2 .taken in
+    rw (not-unset, is-01)
 
 returns-3 : tie.Need-returns-3
 unfolding stepA
-returns-3 c = rw (sym (c .before .before .before .ok-unset .ensures) ∙ c .before .before .if1 .left, sym (c .before .ok-set .ensures) ∙ c .if2 .left)
+returns-3 c =
+    let not-unset = sym (c .before .before .before .ok-unset .ensures) ∙ c .before .before .if1 .left in
+    let not-01 = sym (c .before .ok-set .ensures) ∙ c .if2 .left in
+    rw (not-unset, not-01)
 
 pub step-a-spec : {M : Type 1} → statement M
 step-a-spec = tie.close (tie.spec ok-unset-requires returns ok-set-requires returns-2 returns-3)

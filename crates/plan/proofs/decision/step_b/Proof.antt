@@ -19,8 +19,10 @@ returns : tie.Need-returns
 unfolding stepB base
 returns c =
     let a = c .before .before .before .before .before .args in
-    rw (sym (c .before .before .before .unfinished .ensures) ∙ c .before .before .if1 .taken)
-    (c .continue-run .ensures ∙ ap (λ (n : ℕ). continue (build (a .g)) (a .t0 .now) n (a .otherwise)) (c .before .written-marks .ensures))
+    let unfinished-yet = sym (c .before .before .before .unfinished .ensures) ∙ c .before .before .if1 .taken in
+    rw unfinished-yet
+    (c .continue-run .ensures
+    ∙ ap (λ (n : ℕ). continue (build (a .g)) (a .t0 .now) n (a .otherwise)) (c .before .written-marks .ensures))
 
 returns-2 : tie.Need-returns-2
 unfolding stepB

@@ -15,7 +15,9 @@ unfolding base
 mark-in-requires c κs = (search needs, omega (arith, ap (λ (o : Offset). o .0) (c .done-place .ensures)))
 
 returns : tie.Need-returns
-returns c = c .mark-in .ensures ∙ ap (markOf (build (c .before .before .before .args .g)) (c .before .before .before .args .t .now)) (c .before .done-place .ensures)
+returns c =
+    let a = c .before .before .before .args in
+    c .mark-in .ensures ∙ ap (markOf (build (a .g)) (a .t .now)) (c .before .done-place .ensures)
 
 pub done-mark-spec : {M : Type 1} → statement M
 done-mark-spec = tie.close (tie.spec done-place-requires mark-in-requires returns)

@@ -15,7 +15,9 @@ unfolding base
 mark-in-requires c κs = (search needs, omega (arith, ap (λ (o : Offset). o .0) (c .ok-place .ensures)))
 
 returns : tie.Need-returns
-returns c = c .mark-in .ensures ∙ ap (markOf (build (c .before .before .before .args .g)) (c .before .before .before .args .t .now)) (c .before .ok-place .ensures)
+returns c =
+    let a = c .before .before .before .args in
+    c .mark-in .ensures ∙ ap (markOf (build (a .g)) (a .t .now)) (c .before .ok-place .ensures)
 
 pub ok-mark-spec : {M : Type 1} → statement M
 ok-mark-spec = tie.close (tie.spec ok-place-requires mark-in-requires returns)

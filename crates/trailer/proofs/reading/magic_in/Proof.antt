@@ -33,16 +33,18 @@ returns-2 c =
     let a = c .before .before .before .before .before .before .before .before .args in
     let at = c .before .before .before .before .before .before .magic-place in
     let words = c .before .before .before .before .before .magic-bytes in
-    magic-unset (build (a .g)) (a .t .now) (at .result) (words .result) (at .ensures) (words .ensures)
-    (sym (c .before .before .before .stands .ensures) ∙ c .before .before .if1 .left) (sym (c .before .all-blank .ensures) ∙ c .if2 .taken)
+    let other = sym (c .before .before .before .stands .ensures) ∙ c .before .before .if1 .left in
+    magic-unset (build (a .g)) (a .t .now) (at .result) (words .result) (at .ensures) (words .ensures) other
+    (sym (c .before .all-blank .ensures) ∙ c .if2 .taken)
 
 returns-3 : tie.Need-returns-3
 returns-3 c =
     let a = c .before .before .before .before .before .before .before .before .args in
     let at = c .before .before .before .before .before .before .magic-place in
     let words = c .before .before .before .before .before .magic-bytes in
-    magic-bad (build (a .g)) (a .t .now) (at .result) (words .result) (at .ensures) (words .ensures)
-    (sym (c .before .before .before .stands .ensures) ∙ c .before .before .if1 .left) (sym (c .before .all-blank .ensures) ∙ c .if2 .left)
+    let other = sym (c .before .before .before .stands .ensures) ∙ c .before .before .if1 .left in
+    magic-bad (build (a .g)) (a .t .now) (at .result) (words .result) (at .ensures) (words .ensures) other
+    (sym (c .before .all-blank .ensures) ∙ c .if2 .left)
 
 pub magic-in-spec : {M : Type 1} → statement M
 magic-in-spec =

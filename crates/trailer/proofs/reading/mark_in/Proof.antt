@@ -1,7 +1,4 @@
-use mathlib.Core.Path.{_≡_}
-use mathlib.Core.Bool.{true, false}
-use Prim.Native.Nat.{_+_, _-_}
-use Rattle.spans.specs.Bytes.{part, same, blank}
+use mathlib.Core.Path.{sym, _∙_}
 use Rattle.flash.specs.Base.{base, build}
 use Rattle.trailer.specs.ReadLaws.{mark-reads}
 use borrow.Author.Needs.{needs}
@@ -15,8 +12,9 @@ returns : tie.Need-returns
 unfolding base
 returns c =
     let a = c .before .before .before .args in
-    let none : same (part (a .t .now) (a .place .0) (a .g .unit)) (blank (a .g .unit)) ≡ true = cc in
-    rw (mark-reads (build (a .g)) (a .t .now) (a .place) (c .before .before .before .pre .0 .positive), none)
+    let none = sym (c .before .all-blank .ensures) ∙ c .if1 .taken in
+    let reads = mark-reads (build (a .g)) (a .t .now) (a .place) (c .before .before .before .pre .0 .positive) in
+    rw (reads, none)
 
 add-all-blank : tie.Need-add-all-blank
 add-all-blank c = search needs
@@ -34,17 +32,19 @@ returns-2 : tie.Need-returns-2
 unfolding base
 returns-2 c =
     let a = c .before .before .before .before .before .before .args in
-    let some : same (part (a .t .now) (a .place .0) (a .g .unit)) (blank (a .g .unit)) ≡ false = cc in
-    let whole : same (part (a .t .now) (a .place .0 + 1) (a .g .unit - 1)) (blank (a .g .unit - 1)) ≡ true = cc in
-    rw (mark-reads (build (a .g)) (a .t .now) (a .place) (c .before .before .before .before .before .before .pre .0 .positive), some, whole, c .byte-at .ensures)
+    let some = sym (c .before .before .before .before .all-blank .ensures) ∙ c .before .before .before .if1 .left in
+    let whole = sym (c .before .before .all-blank2 .ensures) ∙ c .before .if2 .taken in
+    let reads = mark-reads (build (a .g)) (a .t .now) (a .place) (c .before .before .before .before .before .before .pre .0 .positive) in
+    rw (reads, some, whole, c .byte-at .ensures)
 
 returns-3 : tie.Need-returns-3
 unfolding base
 returns-3 c =
     let a = c .before .before .before .before .before .args in
-    let some : same (part (a .t .now) (a .place .0) (a .g .unit)) (blank (a .g .unit)) ≡ false = cc in
-    let torn : same (part (a .t .now) (a .place .0 + 1) (a .g .unit - 1)) (blank (a .g .unit - 1)) ≡ false = cc in
-    rw (mark-reads (build (a .g)) (a .t .now) (a .place) (c .before .before .before .before .before .pre .0 .positive), some, torn)
+    let some = sym (c .before .before .before .all-blank .ensures) ∙ c .before .before .if1 .left in
+    let torn = sym (c .before .all-blank2 .ensures) ∙ c .if2 .left in
+    let reads = mark-reads (build (a .g)) (a .t .now) (a .place) (c .before .before .before .before .before .pre .0 .positive) in
+    rw (reads, some, torn)
 
 pub mark-in-spec : {M : Type 1} → statement M
 mark-in-spec =

@@ -25,7 +25,8 @@ unfolding base
 returns c =
     let a = c .before .before .before .before .before .args in
     let less : ltb (a .k) (a .c) ≡ true = lt-ltb (a .k) (a .c) (c .before .before .if1 .taken) in
-    rw less (c .has-value .ensures ∙ ap₂ hasValue (c .before .mark-value .ensures) (c .before .before .before .progress-mark .ensures))
+    let mark = c .before .before .before .progress-mark in
+    rw less (c .has-value .ensures ∙ ap₂ hasValue (c .before .mark-value .ensures) (mark .ensures))
 
 returns-2 : tie.Need-returns-2
 unfolding base

@@ -1,8 +1,8 @@
-use mathlib.Core.Path.{_≡_, ap}
-use Prim.Native.Nat.{_+_, _*_, _-_}
+use mathlib.Core.Path.{ap, _∙_}
 use native.Mathlib.Omega.{arith}
 use Rattle.flash.specs.declared.Offset.{Offset}
-use Rattle.flash.specs.Base.{base}
+use Rattle.flash.specs.Base.{base, build}
+use Rattle.trailer.specs.Trailer.{markOf}
 use Rattle.trailer.specs.PlaceLaws.{marks-fit}
 use borrow.Author.Needs.{needs}
 use Rattle.trailer.proofs.run.progress_mark.Statement.{statement}
@@ -15,11 +15,13 @@ mark-in-requires : tie.Need-mark-in-requires
 unfolding base
 mark-in-requires c κs =
     let a = c .before .before .args in
-    let e : c .mark-place .result .0 ≡ a .g .sector - 32 - 3 * a .g .sectors * a .g .unit + a .k * a .g .unit = ap (λ (o : Offset). o .0) (c .mark-place .ensures) in
-    (search needs, omega (arith, e, marks-fit (a .g) (a .k) (c .before .before .pre .0) (omega arith)))
+    let at = ap (λ (o : Offset). o .0) (c .mark-place .ensures) in
+    (search needs, omega (arith, at, marks-fit (a .g) (a .k) (c .before .before .pre .0) (omega arith)))
 
 returns : tie.Need-returns
-returns c = cc
+returns c =
+    let a = c .before .before .before .args in
+    c .mark-in .ensures ∙ ap (markOf (build (a .g)) (a .t .now)) (c .before .mark-place .ensures)
 
 pub progress-mark-spec : {M : Type 1} → statement M
 progress-mark-spec = tie.close (tie.spec mark-place-requires mark-in-requires returns)

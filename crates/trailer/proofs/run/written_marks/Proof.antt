@@ -17,7 +17,9 @@ mul-all : tie.Need-mul-all Inv-loop μ-loop
 mul-all c = search needs
 
 loop-holds : tie.Need-loop-holds Inv-loop μ-loop
-loop-holds c = (omega arith, counted-start (build (c .before .before .args .g)) (c .before .before .args .t .now) (3 * c .before .before .args .g .sectors))
+loop-holds c =
+    let a = c .before .before .args in
+    (omega arith, counted-start (build (a .g)) (a .t .now) (3 * a .g .sectors))
 
 mark-missing-requires : tie.Need-mark-missing-requires Inv-loop μ-loop
 mark-missing-requires c κs = search needs
@@ -25,7 +27,8 @@ mark-missing-requires c κs = search needs
 returns : tie.Need-returns Inv-loop μ-loop
 returns c =
     let a = c .before .before .before .before .before .before .args in
-    counted-here (build (a .g)) (a .t .now) (3 * a .g .sectors) (c .before .before .before .loop .k) (c .before .before .before .loop .inv .1) (omega arith)
+    let loop = c .before .before .before .loop in
+    counted-here (build (a .g)) (a .t .now) (3 * a .g .sectors) (loop .k) (loop .inv .1) (omega arith)
     (sym (c .before .mark-missing .ensures) ∙ c .if1 .taken)
 
 add-k : tie.Need-add-k Inv-loop μ-loop
@@ -36,9 +39,10 @@ loop-less c = search needs
 
 loop-again : tie.Need-loop-again Inv-loop μ-loop
 loop-again c =
-    let a = c .before .before .before .before .before .before .args in (
+    let a = c .before .before .before .before .before .before .args in
+    let loop = c .before .before .before .loop in (
       omega arith,
-      counted-more (build (a .g)) (a .t .now) (3 * a .g .sectors) (c .before .before .before .loop .k) (c .before .before .before .loop .inv .1) (omega arith)
+      counted-more (build (a .g)) (a .t .now) (3 * a .g .sectors) (loop .k) (loop .inv .1) (omega arith)
           (sym (c .before .mark-missing .ensures) ∙ c .if1 .left),
     )
 
