@@ -3,3 +3,5 @@ pub mod Choice
 pub mod Laws
 pub mod CutOff
 pub mod Folds
+pub mod Words
+pub mod WordLaws
