@@ -108,10 +108,14 @@ H₀ = record { a = 0x6a09e667; b = 0xbb67ae85; c = 0x3c6ef372; d = 0xa54ff53a; 
 unfoldable pub next : List ℕ → ℕ → ℕ
 next W t = σ₁ (getD W (t - 2) 0) ⊞ getD W (t - 7) 0 ⊞ σ₀ (getD W (t - 15) 0) ⊞ getD W (t - 16) 0
 
--- its first 16 + n words: those of the block, then n more
+-- the words up to W_t, from those before it
+unfoldable pub upto : List ℕ → ℕ → List ℕ
+upto W t = W ++ (next W t ∷ [])
+
+-- the first 16 + n words: those of the block, then n more
 unfoldable pub schedule : List ℕ → ℕ → List ℕ
 schedule block zero = block
-schedule block (suc n) = schedule block n ++ (next (schedule block n) (16 + n) ∷ [])
+schedule block (suc n) = upto (schedule block n) (16 + n)
 
 -- 3. one turn for t, with K_t and W_t
 unfoldable pub T₁ : Eight → ℕ → ℕ → ℕ

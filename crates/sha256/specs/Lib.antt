@@ -1,2 +1,3 @@
 pub mod Fips
+pub mod Grown
 pub mod Laws

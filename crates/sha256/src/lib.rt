@@ -1,1 +1,3 @@
 // SHA-256 of FIPS 180-4.
+mod functions;
+mod schedule;

@@ -1,0 +1,87 @@
+use Rattle.sha256.specs.Fips.{next}
+use borrow.Author.Needs.{needs}
+use Rattle.sha256.proofs.schedule.next_word.Statement.{statement}
+use Rattle.sha256.proofs.schedule.next_word.Tie as tie
+use Rattle.sha256.proofs.schedule.next_word.Reads as reads
+use Rattle.sha256.proofs.schedule.next_word.Lts as lts
+use Rattle.sha256.proofs.functions.small0.Reads as small0-reads
+use Rattle.sha256.proofs.functions.small1.Reads as small1-reads
+use Rattle.std.proofs.num.wrapping_add_u32.Reads as wrapping-add-u32-reads
+
+sub-small1 : tie.Need-sub-small1
+sub-small1 c = search needs
+
+mul-small1 : tie.Need-mul-small1
+mul-small1 c = search needs
+
+element-copy-out-small1 : tie.Need-element-copy-out-small1
+element-copy-out-small1 c = search needs
+
+small1-requires : tie.Need-small1-requires
+small1-requires c κs = search needs
+
+sub-wrapping-add-u32 : tie.Need-sub-wrapping-add-u32
+sub-wrapping-add-u32 c = search needs
+
+mul-wrapping-add-u32 : tie.Need-mul-wrapping-add-u32
+mul-wrapping-add-u32 c = search needs
+
+element-copy-out-wrapping-add-u32 : tie.Need-element-copy-out-wrapping-add-u32
+element-copy-out-wrapping-add-u32 c = search needs
+
+wrapping-add-u32-requires : tie.Need-wrapping-add-u32-requires
+wrapping-add-u32-requires c κs = search needs
+
+sub-small0 : tie.Need-sub-small0
+sub-small0 c = search needs
+
+mul-small0 : tie.Need-mul-small0
+mul-small0 c = search needs
+
+element-copy-out-small0 : tie.Need-element-copy-out-small0
+element-copy-out-small0 c = search needs
+
+small0-requires : tie.Need-small0-requires
+small0-requires c κs = search needs
+
+wrapping-add-u32-requires-2 : tie.Need-wrapping-add-u32-requires-2
+wrapping-add-u32-requires-2 c κs = search needs
+
+sub-wrapping-add-u32-2 : tie.Need-sub-wrapping-add-u32-2
+sub-wrapping-add-u32-2 c = search needs
+
+mul-wrapping-add-u32-2 : tie.Need-mul-wrapping-add-u32-2
+mul-wrapping-add-u32-2 c = search needs
+
+element-copy-out-wrapping-add-u32-2 : tie.Need-element-copy-out-wrapping-add-u32-2
+element-copy-out-wrapping-add-u32-2 c = search needs
+
+wrapping-add-u32-requires-3 : tie.Need-wrapping-add-u32-requires-3
+wrapping-add-u32-requires-3 c κs = search needs
+
+returns : tie.Need-returns
+unfolding next
+returns c = cc
+
+pub next-word-spec : {M : Type 1} → statement M
+next-word-spec =
+    tie.close
+    (tie.spec
+    sub-small1
+    mul-small1
+    element-copy-out-small1
+    small1-requires
+    sub-wrapping-add-u32
+    mul-wrapping-add-u32
+    element-copy-out-wrapping-add-u32
+    wrapping-add-u32-requires
+    sub-small0
+    mul-small0
+    element-copy-out-small0
+    small0-requires
+    wrapping-add-u32-requires-2
+    sub-wrapping-add-u32-2
+    mul-wrapping-add-u32-2
+    element-copy-out-wrapping-add-u32-2
+    wrapping-add-u32-requires-3
+    returns)

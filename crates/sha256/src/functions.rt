@@ -1,0 +1,39 @@
+// The six functions of 4.1.2 on words.
+ghost use mathlib.Core.Path.{_≡_};
+ghost use Rattle.sha256.specs.Fips.{Ch, Maj, Σ₀, Σ₁, σ₀, σ₁};
+
+pub fn ch(x: u32, y: u32, z: u32) -> u32
+    ensures { λ r. ⌜ r ≡ Ch x y z ⌝ }
+{
+    (x & y) ^ (!x & z)
+}
+
+pub fn maj(x: u32, y: u32, z: u32) -> u32
+    ensures { λ r. ⌜ r ≡ Maj x y z ⌝ }
+{
+    (x & y) ^ (x & z) ^ (y & z)
+}
+
+pub fn big0(x: u32) -> u32
+    ensures { λ r. ⌜ r ≡ Σ₀ x ⌝ }
+{
+    ((x >> 2) | (x << 30)) ^ ((x >> 13) | (x << 19)) ^ ((x >> 22) | (x << 10))
+}
+
+pub fn big1(x: u32) -> u32
+    ensures { λ r. ⌜ r ≡ Σ₁ x ⌝ }
+{
+    ((x >> 6) | (x << 26)) ^ ((x >> 11) | (x << 21)) ^ ((x >> 25) | (x << 7))
+}
+
+pub fn small0(x: u32) -> u32
+    ensures { λ r. ⌜ r ≡ σ₀ x ⌝ }
+{
+    ((x >> 7) | (x << 25)) ^ ((x >> 18) | (x << 14)) ^ (x >> 3)
+}
+
+pub fn small1(x: u32) -> u32
+    ensures { λ r. ⌜ r ≡ σ₁ x ⌝ }
+{
+    ((x >> 17) | (x << 15)) ^ ((x >> 19) | (x << 13)) ^ (x >> 10)
+}
