@@ -1,3 +1,4 @@
 pub mod Fips
 pub mod Grown
 pub mod Laws
+pub mod Turns

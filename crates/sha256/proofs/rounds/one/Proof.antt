@@ -1,0 +1,36 @@
+use Rattle.sha256.specs.Turns.{eight}
+use Rattle.sha256.specs.Fips.{round}
+use borrow.Author.Needs.{needs}
+use Rattle.sha256.proofs.rounds.one.Statement.{statement}
+use Rattle.sha256.proofs.rounds.one.Tie as tie
+use Rattle.sha256.proofs.rounds.one.Reads as reads
+use Rattle.sha256.proofs.rounds.one.Lts as lts
+use Rattle.sha256.proofs.rounds.first.Reads as first-reads
+use Rattle.sha256.proofs.rounds.second.Reads as second-reads
+use Rattle.std.proofs.num.wrapping_add_u32.Reads as wrapping-add-u32-reads
+
+first-requires : tie.Need-first-requires
+first-requires c κs = search needs
+
+second-requires : tie.Need-second-requires
+second-requires c κs = search needs
+
+wrapping-add-u32-requires : tie.Need-wrapping-add-u32-requires
+wrapping-add-u32-requires c κs = search needs
+
+wrapping-add-u32-requires-2 : tie.Need-wrapping-add-u32-requires-2
+wrapping-add-u32-requires-2 c κs = search needs
+
+returns : tie.Need-returns
+unfolding round eight
+returns c = cc
+
+pub one-spec : {M : Type 1} → statement M
+one-spec =
+    tie.close
+    (tie.spec
+    first-requires
+    second-requires
+    wrapping-add-u32-requires
+    wrapping-add-u32-requires-2
+    returns)

@@ -1,0 +1,50 @@
+use Rattle.sha256.specs.Turns.{eight}
+use Rattle.sha256.specs.Fips.{plus}
+use borrow.Author.Needs.{needs}
+use Rattle.sha256.proofs.rounds.sum.Statement.{statement}
+use Rattle.sha256.proofs.rounds.sum.Tie as tie
+use Rattle.sha256.proofs.rounds.sum.Reads as reads
+use Rattle.sha256.proofs.rounds.sum.Lts as lts
+use Rattle.std.proofs.num.wrapping_add_u32.Reads as wrapping-add-u32-reads
+
+wrapping-add-u32-requires : tie.Need-wrapping-add-u32-requires
+wrapping-add-u32-requires c κs = search needs
+
+wrapping-add-u32-requires-2 : tie.Need-wrapping-add-u32-requires-2
+wrapping-add-u32-requires-2 c κs = search needs
+
+wrapping-add-u32-requires-3 : tie.Need-wrapping-add-u32-requires-3
+wrapping-add-u32-requires-3 c κs = search needs
+
+wrapping-add-u32-requires-4 : tie.Need-wrapping-add-u32-requires-4
+wrapping-add-u32-requires-4 c κs = search needs
+
+wrapping-add-u32-requires-5 : tie.Need-wrapping-add-u32-requires-5
+wrapping-add-u32-requires-5 c κs = search needs
+
+wrapping-add-u32-requires-6 : tie.Need-wrapping-add-u32-requires-6
+wrapping-add-u32-requires-6 c κs = search needs
+
+wrapping-add-u32-requires-7 : tie.Need-wrapping-add-u32-requires-7
+wrapping-add-u32-requires-7 c κs = search needs
+
+wrapping-add-u32-requires-8 : tie.Need-wrapping-add-u32-requires-8
+wrapping-add-u32-requires-8 c κs = search needs
+
+returns : tie.Need-returns
+unfolding plus eight
+returns c = cc
+
+pub sum-spec : {M : Type 1} → statement M
+sum-spec =
+    tie.close
+    (tie.spec
+    wrapping-add-u32-requires
+    wrapping-add-u32-requires-2
+    wrapping-add-u32-requires-3
+    wrapping-add-u32-requires-4
+    wrapping-add-u32-requires-5
+    wrapping-add-u32-requires-6
+    wrapping-add-u32-requires-7
+    wrapping-add-u32-requires-8
+    returns)

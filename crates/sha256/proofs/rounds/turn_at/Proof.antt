@@ -1,0 +1,31 @@
+use Rattle.sha256.specs.Turns.{turn}
+use borrow.Author.Needs.{needs}
+use Rattle.sha256.proofs.rounds.turn_at.Statement.{statement}
+use Rattle.sha256.proofs.rounds.turn_at.Tie as tie
+use Rattle.sha256.proofs.rounds.turn_at.Reads as reads
+use Rattle.sha256.proofs.rounds.turn_at.Lts as lts
+use Rattle.sha256.proofs.rounds.one.Reads as one-reads
+
+mul-one : tie.Need-mul-one
+mul-one c = search needs
+
+element-copy-out-one : tie.Need-element-copy-out-one
+element-copy-out-one c = search needs
+
+mul-one-2 : tie.Need-mul-one-2
+mul-one-2 c = search needs
+
+element-copy-out-one-2 : tie.Need-element-copy-out-one-2
+element-copy-out-one-2 c = search needs
+
+one-requires : tie.Need-one-requires
+one-requires c κs = search needs
+
+returns : tie.Need-returns
+unfolding turn
+returns c = cc
+
+pub turn-at-spec : {M : Type 1} → statement M
+turn-at-spec =
+    tie.close
+    (tie.spec mul-one element-copy-out-one mul-one-2 element-copy-out-one-2 one-requires returns)
