@@ -1,4 +1,5 @@
 // SHA-256 of FIPS 180-4.
+mod blocks;
 mod functions;
 mod rounds;
 mod schedule;

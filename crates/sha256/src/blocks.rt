@@ -1,0 +1,65 @@
+// Blocks of 64 bytes: 5.2.1, and 6.2.2 block by block.
+ghost use mathlib.Core.Path.{_≡_};
+ghost use Prim.Native.Nat.{_+_, _*_, _≤_, _<_};
+ghost use lib.ListN.{length, take, drop};
+ghost use Rattle.spans.specs.Bytes.{part};
+ghost use Rattle.spans.specs.Words.{number, words};
+ghost use Rattle.sha256.specs.Fips.{compress, hash};
+ghost use Rattle.sha256.specs.Turns.{eight};
+
+use super::rounds;
+use super::rounds::Work;
+use super::schedule;
+
+fn byte(x: u8) -> u32
+    ensures { λ r. ⌜ (r ≡ x) × (r < 256) ⌝ }
+{
+    x as u32
+}
+
+fn word(bytes: &[u8], at: usize) -> u32
+    requires { ⌜ at + 4 ≤ length (now bytes) ⌝ }
+    ensures { λ r. ⌜ r ≡ number (part (now (bytes .entry)) at 4) ⌝ }
+{
+    byte(bytes[at]) * 16777216
+        + byte(bytes[at + 1]) * 65536
+        + byte(bytes[at + 2]) * 256
+        + byte(bytes[at + 3])
+}
+
+// The sixteen words of the block at at.
+fn load(bytes: &[u8], at: usize, w: &mut [u32; 64])
+    requires { ⌜ (at + 64 ≤ length (now bytes)) × (length (now w) ≡ 64) ⌝ }
+    ensures { λ _. ⌜ (take 16 (now (w .exit)) ≡ words 4 16 (drop at (now (bytes .entry)))) × (length (now (w .exit)) ≡ 64) ⌝ }
+{
+    let mut i = 0;
+    while i < 16 {
+        w[i] = word(bytes, at + 4 * i);
+        i += 1;
+    }
+}
+
+// The hash value after the block at at. The schedule is made in w, whose words may be any.
+fn block(h: Work, bytes: &[u8], at: usize, w: &mut [u32; 64]) -> Work
+    requires { ⌜ (at + 64 ≤ length (now bytes)) × (length (now w) ≡ 64) ⌝ }
+    ensures { λ r. ⌜ (eight r ≡ compress (eight h) (words 4 16 (drop at (now (bytes .entry))))) × (length (now (w .exit)) ≡ 64) ⌝ }
+{
+    load(bytes, at, w);
+    schedule::extend(w);
+    rounds::compress(h, w)
+}
+
+// The hash value after the first count blocks.
+pub fn absorb(h: Work, bytes: &[u8], count: usize) -> Work
+    requires { ⌜ 64 * count ≤ length (now bytes) ⌝ }
+    ensures { λ r. ⌜ eight r ≡ hash (eight h) (now (bytes .entry)) count ⌝ }
+{
+    let mut w = [0u32; 64];
+    let mut s = h;
+    let mut i = 0;
+    while i < count {
+        s = block(s, bytes, 64 * i, &mut w);
+        i += 1;
+    }
+    s
+}
