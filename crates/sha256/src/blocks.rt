@@ -1,31 +1,14 @@
 // Blocks of 64 bytes: 5.2.1, and 6.2.2 block by block.
 ghost use mathlib.Core.Path.{_≡_};
-ghost use Prim.Native.Nat.{_+_, _*_, _≤_, _<_};
+ghost use Prim.Native.Nat.{_+_, _*_, _≤_};
 ghost use lib.ListN.{length, take, drop};
-ghost use Rattle.spans.specs.Bytes.{part};
-ghost use Rattle.spans.specs.Words.{number, words};
+ghost use Rattle.spans.specs.Words.{words};
 ghost use Rattle.sha256.specs.Fips.{compress, hash};
 ghost use Rattle.sha256.specs.Turns.{eight};
-
 use super::rounds;
 use super::rounds::Work;
 use super::schedule;
-
-fn byte(x: u8) -> u32
-    ensures { λ r. ⌜ (r ≡ x) × (r < 256) ⌝ }
-{
-    x as u32
-}
-
-fn word(bytes: &[u8], at: usize) -> u32
-    requires { ⌜ at + 4 ≤ length (now bytes) ⌝ }
-    ensures { λ r. ⌜ r ≡ number (part (now (bytes .entry)) at 4) ⌝ }
-{
-    byte(bytes[at]) * 16777216
-        + byte(bytes[at + 1]) * 65536
-        + byte(bytes[at + 2]) * 256
-        + byte(bytes[at + 3])
-}
+use super::words;
 
 // The sixteen words of the block at at.
 fn load(bytes: &[u8], at: usize, w: &mut [u32; 64])
@@ -34,7 +17,7 @@ fn load(bytes: &[u8], at: usize, w: &mut [u32; 64])
 {
     let mut i = 0;
     while i < 16 {
-        w[i] = word(bytes, at + 4 * i);
+        w[i] = words::word(bytes, at + 4 * i);
         i += 1;
     }
 }

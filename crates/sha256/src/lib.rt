@@ -1,5 +1,47 @@
 // SHA-256 of FIPS 180-4.
 mod blocks;
 mod functions;
+mod last;
 mod rounds;
 mod schedule;
+mod words;
+
+ghost use mathlib.Core.Path.{_≡_};
+ghost use Rattle.sha256.specs.Fips.{H₀, result, sha256};
+ghost use Rattle.sha256.specs.Turns.{eight};
+use rounds::Work;
+
+fn start() -> Work
+    ensures { λ r. ⌜ eight r ≡ H₀ ⌝ }
+{
+    Work {
+        a: 0x6a09e667,
+        b: 0xbb67ae85,
+        c: 0x3c6ef372,
+        d: 0xa54ff53a,
+        e: 0x510e527f,
+        f: 0x9b05688c,
+        g: 0x1f83d9ab,
+        h: 0x5be0cd19,
+    }
+}
+
+fn result_of(h: Work) -> [u8; 32]
+    ensures { λ r. ⌜ r ≡ result (eight h) ⌝ }
+{
+    let mut out = [0u8; 32];
+    words::put_four(&mut out, 0, h.a, h.b, h.c, h.d);
+    words::put_four(&mut out, 16, h.e, h.f, h.g, h.h);
+    out
+}
+
+// The digest of a message of any length.
+pub fn digest(message: &[u8], out: &mut [u8; 32])
+    ensures { λ _. ⌜ now (out .exit) ≡ sha256 (now (message .entry)) ⌝ }
+{
+    let full = message.len() / 64;
+    let mut tail = [0u8; 128];
+    let count = last::finish(message, 64 * full, &mut tail);
+    let body = blocks::absorb(start(), message, full);
+    *out = result_of(blocks::absorb(body, &tail, count));
+}

@@ -30,7 +30,7 @@ fn four_words(w: &mut [u32; 64], t: usize)
 // The words from the seventeenth on, from the sixteen that stand first.
 pub fn extend(w: &mut [u32; 64])
     requires { ⌜ length (now w) ≡ 64 ⌝ }
-    ensures { λ _. ⌜ now (w .exit) ≡ schedule (take 16 (now (w .entry))) 48 ⌝ }
+    ensures { λ _. ⌜ (now (w .exit) ≡ schedule (take 16 (now (w .entry))) 48) × (length (now (w .exit)) ≡ 64) ⌝ }
 {
     let mut t = 16;
     while t < 64 {

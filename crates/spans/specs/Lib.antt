@@ -3,5 +3,6 @@ pub mod Choice
 pub mod Laws
 pub mod CutOff
 pub mod Folds
+pub mod Runs
 pub mod Words
 pub mod WordLaws

@@ -6,12 +6,12 @@ use lib.ListN.{length, take, drop}
 -- the number that the bytes write
 unfoldable pub number : List ℕ → ℕ
 number [] = 0
-number (x ∷ xs) = x * 256 ^ length xs + number xs
+number (x ∷ xs) = x * 2 ^ (8 * length xs) + number xs
 
 -- the n bytes that write x modulo 2 ^ (8 * n)
 unfoldable pub bytesOf : ℕ → ℕ → List ℕ
 bytesOf zero x = []
-bytesOf (suc n) x = x / 256 ^ n % 256 ∷ bytesOf n x
+bytesOf (suc n) x = x / 2 ^ (8 * n) % 256 ∷ bytesOf n x
 
 -- the first n words of w bytes
 unfoldable pub words : ℕ → ℕ → List ℕ → List ℕ

@@ -9,7 +9,7 @@ use Rattle.sha256.proofs.blocks.load.Statement.{statement}
 use Rattle.sha256.proofs.blocks.load.Tie as tie
 use Rattle.sha256.proofs.blocks.load.Reads as reads
 use Rattle.sha256.proofs.blocks.load.Lts as lts
-use Rattle.sha256.proofs.blocks.word.Reads as word-reads
+use Rattle.sha256.proofs.words.word.Reads as word-reads
 
 abbrev Inv-loop : tie.InvT-loop
 Inv-loop bytes at w₀ i₀ w i = (i ≤ 16) × (length w ≡ 64) × (take i w ≡ words 4 i (drop at bytes))
@@ -45,8 +45,7 @@ loop-less c = search needs
 loop-again : tie.Need-loop-again Inv-loop μ-loop
 loop-again c =
     let a = c .before .before .before .before .args in
-    let l = c .before .before .loop in
-    (
+    let l = c .before .before .loop in (
       omega arith,
       simp length-set (l .inv .1),
       store-next 4 (a .bytes .now) (a .at) (l .w) (l .i) _ (omega arith) (l .inv .2) (c .word .ensures),

@@ -31,7 +31,7 @@ loop-again : tie.Need-loop-again Inv-loop μ-loop
 loop-again c = (filling-four (c .before .before .before .loop .inv .0) (omega arith) (c .four-words .ensures), omega arith)
 
 returns : tie.Need-returns Inv-loop μ-loop
-returns c = filled (c .before .loop .inv .0) (omega arith)
+returns c = (filled (c .before .loop .inv .0) (omega arith), c .before .loop .inv .0 .long)
 
 pub extend-spec : {M : Type 1} → statement M
 extend-spec =

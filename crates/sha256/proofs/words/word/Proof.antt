@@ -1,11 +1,11 @@
 use native.Mathlib.Omega.{arith}
 use Rattle.spans.specs.WordLaws.{number-four}
 use borrow.Author.Needs.{needs}
-use Rattle.sha256.proofs.blocks.word.Statement.{statement}
-use Rattle.sha256.proofs.blocks.word.Tie as tie
-use Rattle.sha256.proofs.blocks.word.Reads as reads
-use Rattle.sha256.proofs.blocks.word.Lts as lts
-use Rattle.sha256.proofs.blocks.byte.Reads as byte-reads
+use Rattle.sha256.proofs.words.word.Statement.{statement}
+use Rattle.sha256.proofs.words.word.Tie as tie
+use Rattle.sha256.proofs.words.word.Reads as reads
+use Rattle.sha256.proofs.words.word.Lts as lts
+use Rattle.sha256.proofs.words.byte.Reads as byte-reads
 
 shared-slice-read-byte : tie.Need-shared-slice-read-byte
 shared-slice-read-byte c = search needs

@@ -1,0 +1,59 @@
+use mathlib.Core.Path.{_≡_, refl, ap, _∙_}
+use Prim.Native.Nat.{ℕ, _-_, _≤_}
+use native.Mathlib.Omega.{arith}
+use lib.ListN.{length}
+use Rattle.sha256.specs.Fips.{hash}
+use Rattle.sha256.specs.Hashes.{hash-next}
+use Rattle.sha256.specs.Turns.{eight}
+use borrow.Author.Needs.{needs}
+use Rattle.sha256.proofs.blocks.absorb.Statement.{statement}
+use Rattle.sha256.proofs.blocks.absorb.Tie as tie
+use Rattle.sha256.proofs.blocks.absorb.Reads as reads
+use Rattle.sha256.proofs.blocks.absorb.Lts as lts
+use Rattle.sha256.proofs.blocks.block.Reads as block-reads
+
+abbrev Inv-loop : tie.InvT-loop
+Inv-loop bytes count w₀ s₀ i₀ w s i = (i ≤ count) × (length w ≡ 64) × (eight s ≡ hash (eight s₀) bytes i)
+
+abbrev μ-loop : tie.MeasureT-loop
+μ-loop bytes count w₀ s₀ i₀ w s i = count - i
+
+loop-holds : tie.Need-loop-holds Inv-loop μ-loop
+unfolding hash
+loop-holds c = (omega arith, refl, refl)
+
+mul-block : tie.Need-mul-block Inv-loop μ-loop
+mul-block c = search needs
+
+block-requires : tie.Need-block-requires Inv-loop μ-loop
+block-requires c κs = search needs
+
+add-i : tie.Need-add-i Inv-loop μ-loop
+add-i c = search needs
+
+loop-less : tie.Need-loop-less Inv-loop μ-loop
+loop-less c = search needs
+
+loop-again : tie.Need-loop-again Inv-loop μ-loop
+loop-again c =
+    let l = c .before .before .before .loop in
+    (omega arith, c .block .ensures .1, hash-next _ _ _ _ _ (l .inv .2) (c .block .ensures .0))
+
+returns : tie.Need-returns Inv-loop μ-loop
+returns c =
+    let e : c .before .loop .i ≡ c .before .before .before .args .count = omega arith in
+    rw e at (c .before .loop .inv .2)
+
+pub absorb-spec : {M : Type 1} → statement M
+absorb-spec =
+    tie.close
+    (tie.spec
+    Inv-loop
+    μ-loop
+    loop-holds
+    mul-block
+    block-requires
+    add-i
+    loop-less
+    loop-again
+    returns)

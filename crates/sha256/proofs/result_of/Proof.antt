@@ -1,0 +1,36 @@
+use mathlib.Core.Path.{refl}
+use lib.ListN.{replicate}
+use Rattle.sha256.specs.Results.{put-result}
+use Rattle.sha256.specs.Turns.{eight}
+use borrow.Author.Needs.{needs}
+use Rattle.sha256.proofs.result_of.Statement.{statement}
+use Rattle.sha256.proofs.result_of.Tie as tie
+use Rattle.sha256.proofs.result_of.Reads as reads
+use Rattle.sha256.proofs.result_of.Lts as lts
+use Rattle.sha256.proofs.words.put_four.Reads as put-four-reads
+
+slice-aggregate-put-four : tie.Need-slice-aggregate-put-four
+slice-aggregate-put-four c = search needs
+
+put-four-requires : tie.Need-put-four-requires
+put-four-requires c κs = search needs
+
+slice-aggregate-put-four-2 : tie.Need-slice-aggregate-put-four-2
+slice-aggregate-put-four-2 c = search needs
+
+put-four-requires-2 : tie.Need-put-four-requires-2
+put-four-requires-2 c κs = search needs
+
+returns : tie.Need-returns
+unfolding eight
+returns c = cc (put-result (eight (c .before .before .before .before .before .before .args .h)) (replicate 32 0) refl)
+
+pub result-of-spec : {M : Type 1} → statement M
+result-of-spec =
+    tie.close
+    (tie.spec
+    slice-aggregate-put-four
+    put-four-requires
+    slice-aggregate-put-four-2
+    put-four-requires-2
+    returns)

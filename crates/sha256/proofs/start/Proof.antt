@@ -1,0 +1,12 @@
+use mathlib.Core.Path.{refl}
+use Rattle.sha256.specs.Fips.{H₀}
+use Rattle.sha256.specs.Turns.{eight}
+use Rattle.sha256.proofs.start.Statement.{statement}
+use Rattle.sha256.proofs.start.Tie as tie
+
+returns : tie.Need-returns
+unfolding H₀ eight
+returns c = refl
+
+pub start-spec : {M : Type 1} → statement M
+start-spec = tie.close (tie.spec returns)

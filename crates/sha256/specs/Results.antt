@@ -1,0 +1,32 @@
+-- The result as it is written, word by word.
+use mathlib.Core.Path.{_≡_, refl, sym, ap, _∙_}
+use mathlib.Core.List.{List, [], _∷_, _++_, append-assoc}
+use Prim.Native.Nat.{ℕ, _+_}
+use native.Mathlib.Omega.{arith}
+use lib.ListN.{length, replicate, length-append}
+use Rattle.spans.specs.Bytes.{put}
+use Rattle.spans.specs.Laws.{put-all}
+use Rattle.spans.specs.Runs.{put-on}
+use Rattle.spans.specs.Words.{bytesOf}
+use Rattle.spans.specs.WordLaws.{length-bytesOf}
+use Rattle.sha256.specs.Fips.{Eight, result}
+use Rattle.sha256.specs.Laws.{length-result}
+
+abbrev pub four : ℕ → ℕ → ℕ → ℕ → List ℕ
+four a b c d = bytesOf 4 a ++ bytesOf 4 b ++ bytesOf 4 c ++ bytesOf 4 d
+
+pub put-words : (xs : List ℕ) (at a b c d : ℕ)
+    → put (put (put (put xs at (bytesOf 4 a)) (at + 4) (bytesOf 4 b)) (at + 8) (bytesOf 4 c)) (at + 12) (bytesOf 4 d) ≡ put xs at (four a b c d)
+unfolding bytesOf
+put-words xs at a b c d =
+    rw (put-on xs at (bytesOf 4 a) (bytesOf 4 b) (at + 4) refl, put-on xs at (bytesOf 4 a ++ bytesOf 4 b) (bytesOf 4 c) (at + 8) refl)
+    (put-on xs at (bytesOf 4 a ++ bytesOf 4 b ++ bytesOf 4 c) (bytesOf 4 d) (at + 12) refl)
+
+-- two halves, written into an array of 32 bytes
+pub put-result : (H : Eight) (xs : List ℕ) → length xs ≡ 32
+    → put (put xs 0 (four (H .a) (H .b) (H .c) (H .d))) 16 (four (H .e) (H .f) (H .g) (H .h)) ≡ result H
+unfolding result
+put-result H xs l =
+    let front = four (H .a) (H .b) (H .c) (H .d) in
+    let e : 16 ≡ 0 + length front = simp (length-append, length-bytesOf) in
+    put-on xs 0 front (four (H .e) (H .f) (H .g) (H .h)) 16 e ∙ ap (put xs 0) (simp append-assoc) ∙ put-all xs (result H) (l ∙ sym (length-result H))
