@@ -18,7 +18,7 @@ add-count : tie.Need-add-count
 add-count c = search needs
 
 copy-requires : tie.Need-copy-requires
-copy-requires c κs = (omega arith, omega (arith, ap length (c .before .before .before .pre .1)))
+copy-requires c κs = search needs
 
 slice-write-tail : tie.Need-slice-write-tail
 slice-write-tail c = omega (arith, ap length (c .before .before .before .before .before .before .pre .1))
