@@ -1,9 +1,8 @@
 -- The result as it is written, word by word.
 use mathlib.Core.Path.{_≡_, refl, sym, ap, _∙_}
-use mathlib.Core.List.{List, [], _∷_, _++_, append-assoc}
+use mathlib.Core.List.{List, _++_, append-assoc}
 use Prim.Native.Nat.{ℕ, _+_}
-use native.Mathlib.Omega.{arith}
-use lib.ListN.{length, replicate, length-append}
+use lib.ListN.{length, length-append}
 use Rattle.spans.specs.Bytes.{put}
 use Rattle.spans.specs.Laws.{put-all}
 use Rattle.spans.specs.Runs.{put-on}

@@ -2,7 +2,7 @@
 use mathlib.Core.Path.{_≡_, refl, sym, ap, _∙_}
 use mathlib.Core.List.{List, [], _∷_, _++_}
 use Prim.Native.Nat.{ℕ, zero, suc, _+_, _*_, _/_, _%_, _^_, _-_, _≤_, _<_}
-use native.Mathlib.Nat.{zero-add, suc-add, mul-suc, mul-zero, add-zero, add-comm}
+use native.Mathlib.Nat.{zero-add, suc-add, mul-suc, mul-zero, add-comm}
 use native.Mathlib.Numerals.{add-one}
 use native.Mathlib.Omega.{arith}
 use lib.ListN.{length, getD, take, drop, set}
@@ -99,3 +99,24 @@ bytesOf-split (suc n) m x =
     rw suc-add
     (ap (λ (k : ℕ). x / 2 ^ k % 256 ∷ bytesOf (n + m) x) e ∙ ap (λ (y : ℕ). y % 256 ∷ bytesOf (n + m) x) (sym (shr-shr x (8 * m) (8 * n)))
     ∙ ap {B = List ℕ} (λ r. x / 2 ^ (8 * m) / 2 ^ (8 * n) % 256 ∷ r) (bytesOf-split n m x))
+
+-- every number of the list is below b
+pub record Below (b : ℕ) (xs : List ℕ) : Type 0 where
+  pub at : (i : ℕ) → getD xs i 0 < b
+
+byte-below : (n x i : ℕ) → getD (bytesOf n x) i 0 < 256
+unfolding bytesOf
+byte-below zero x i = omega arith
+byte-below (suc n) x zero = omega arith
+byte-below (suc n) x (suc i) = byte-below n x i
+
+pub below-bytesOf : (n x : ℕ) → Below 256 (bytesOf n x)
+below-bytesOf n x = record { at = byte-below n x }
+
+append-below : (xs ys : List ℕ) (b : ℕ) → ((i : ℕ) → getD xs i 0 < b) → ((i : ℕ) → getD ys i 0 < b) → (i : ℕ) → getD (xs ++ ys) i 0 < b
+append-below [] ys b h l i = l i
+append-below (x ∷ xs) ys b h l zero = h zero
+append-below (x ∷ xs) ys b h l (suc i) = append-below xs ys b (λ j. h (suc j)) l i
+
+pub below-append : {b : ℕ} {xs ys : List ℕ} → Below b xs → Below b ys → Below b (xs ++ ys)
+below-append {b} {xs} {ys} h l = record { at = append-below xs ys b (h .at) (l .at) }

@@ -6,10 +6,6 @@ use Rattle.sha256.specs.Padding.{ending-of}
 use borrow.Author.Needs.{needs}
 use Rattle.sha256.proofs.last.finish.Statement.{statement}
 use Rattle.sha256.proofs.last.finish.Tie as tie
-use Rattle.sha256.proofs.last.finish.Reads as reads
-use Rattle.sha256.proofs.last.finish.Lts as lts
-use Rattle.sha256.proofs.last.put_length.Reads as put-length-reads
-use Rattle.spans.proofs.copy.Reads as copy-reads
 
 sub-rest : tie.Need-sub-rest
 sub-rest c = search needs

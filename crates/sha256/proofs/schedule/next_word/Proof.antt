@@ -2,11 +2,6 @@ use Rattle.sha256.specs.Fips.{next}
 use borrow.Author.Needs.{needs}
 use Rattle.sha256.proofs.schedule.next_word.Statement.{statement}
 use Rattle.sha256.proofs.schedule.next_word.Tie as tie
-use Rattle.sha256.proofs.schedule.next_word.Reads as reads
-use Rattle.sha256.proofs.schedule.next_word.Lts as lts
-use Rattle.sha256.proofs.functions.small0.Reads as small0-reads
-use Rattle.sha256.proofs.functions.small1.Reads as small1-reads
-use Rattle.std.proofs.num.wrapping_add_u32.Reads as wrapping-add-u32-reads
 
 sub-small1 : tie.Need-sub-small1
 sub-small1 c = search needs
