@@ -1,11 +1,12 @@
--- What callers may need of the digest: it is 32 bytes.
+-- What a caller may need of the digest, that it is 32 bytes, and a reader of the padding, that it is the standard's.
 use mathlib.Core.Path.{_≡_}
 use mathlib.Core.List.{List, _++_}
-use Prim.Native.Nat.{ℕ}
+use Prim.Native.Nat.{ℕ, _+_, _%_, _≤_}
+use native.Mathlib.Omega.{arith}
 use lib.ListN.{length, length-append}
 use Rattle.spans.specs.Words.{bytesOf}
 use Rattle.spans.specs.WordLaws.{Below, length-bytesOf, below-bytesOf, below-append}
-use Rattle.sha256.specs.Fips.{Eight, result, sha256}
+use Rattle.sha256.specs.Fips.{Eight, zeros, result, sha256}
 
 pub length-result : (H : Eight) → length (result H) ≡ 32
 unfolding result
@@ -26,3 +27,12 @@ result-below H =
 pub sha256-below : (m : List ℕ) → Below 256 (sha256 m)
 unfolding sha256
 sha256-below m = result-below _
+
+-- 5.1.1: a solution, and the least
+pub zeros-solve : (len : ℕ) → (len + 1 + zeros len) % 64 ≡ 56
+unfolding zeros
+zeros-solve len = omega arith
+
+pub zeros-least : (len k : ℕ) → (len + 1 + k) % 64 ≡ 56 → zeros len ≤ k
+unfolding zeros
+zeros-least len k h = omega arith

@@ -28,4 +28,5 @@ unfolding result
 put-result H xs l =
     let front = four (H .a) (H .b) (H .c) (H .d) in
     let e : 16 ≡ 0 + length front = simp (length-append, length-bytesOf) in
-    put-on xs 0 front (four (H .e) (H .f) (H .g) (H .h)) 16 e ∙ ap (put xs 0) (simp append-assoc) ∙ put-all xs (result H) (l ∙ sym (length-result H))
+    put-on xs 0 front (four (H .e) (H .f) (H .g) (H .h)) 16 e ∙ ap (put xs 0) (simp append-assoc) ∙ put-all xs (result H) (l
+    ∙ sym (length-result H))

@@ -26,7 +26,8 @@ choose-digit (suc zero) (suc (suc b)) c ha hb hc = absurd (omega arith)
 choose-digit (suc (suc a)) b c ha hb hc = absurd (omega arith)
 
 -- where x has a 1 the digit of y, else that of z: with a complement, and without
-pub choose : (k x y z : ℕ) → x < 2 ^ k → y < 2 ^ k → z < 2 ^ k → bitXor (bitAnd x y) (bitAnd (2 ^ k - 1 - x) z) ≡ bitXor z (bitAnd x (bitXor y z))
+pub choose : (k x y z : ℕ) → x < 2 ^ k → y < 2 ^ k → z < 2 ^ k
+    → bitXor (bitAnd x y) (bitAnd (2 ^ k - 1 - x) z) ≡ bitXor z (bitAnd x (bitXor y z))
 choose zero zero zero zero hx hy hz = refl
 choose zero zero zero (suc z) hx hy hz = absurd (omega arith)
 choose zero zero (suc y) z hx hy hz = absurd (omega arith)
@@ -41,7 +42,9 @@ choose (suc k) x y z hx hy hz =
     same-digits _ _
     (xor-shr (bitAnd x y) (bitAnd other z) 1 ∙ ap₂ bitXor (and-shr x y 1) (and-shr other z 1 ∙ ap (λ (v : ℕ). bitAnd v (z / 2)) h)
     ∙ choose k (x / 2) (y / 2) (z / 2) bx by bz
-    ∙ sym (xor-shr z (bitAnd x (bitXor y z)) 1 ∙ ap (bitXor (z / 2)) (and-shr x (bitXor y z) 1 ∙ ap (bitAnd (x / 2)) (xor-shr y z 1))))
+    ∙ sym (xor-shr z (bitAnd x (bitXor y z)) 1 ∙ ap (bitXor (z / 2)) (and-shr x (bitXor y z) 1
+    ∙ ap (bitAnd (x / 2)) (xor-shr y z 1))))
     (xor-mod (bitAnd x y) (bitAnd other z) 1 ∙ ap₂ bitXor (and-mod x y 1) (and-mod other z 1 ∙ ap (λ (v : ℕ). bitAnd v (z % 2)) l)
     ∙ choose-digit (x % 2) (y % 2) (z % 2) (omega arith) (omega arith) (omega arith)
-    ∙ sym (xor-mod z (bitAnd x (bitXor y z)) 1 ∙ ap (bitXor (z % 2)) (and-mod x (bitXor y z) 1 ∙ ap (bitAnd (x % 2)) (xor-mod y z 1))))
+    ∙ sym (xor-mod z (bitAnd x (bitXor y z)) 1 ∙ ap (bitXor (z % 2)) (and-mod x (bitXor y z) 1
+    ∙ ap (bitAnd (x % 2)) (xor-mod y z 1))))

@@ -30,7 +30,8 @@ put-length-requires c κs = simp length-set (omega (arith, ap length (c .before 
 
 same-length : tie.Need-same-length
 same-length c =
-    simp (length-put, length-set) at (ap length (c .before .before .put-length .ensures)) ∙ simp length-put at (ap length (c .before .before .before .before .before .before .copy .ensures))
+    simp (length-put, length-set) at (ap length (c .before .before .put-length .ensures))
+    ∙ simp length-put at (ap length (c .before .before .before .before .before .before .copy .ensures))
 
 returns : tie.Need-returns
 returns c =
