@@ -71,7 +71,8 @@ K =
 
 -- ---- 5.1.1: padding
 
--- the zero bytes between the byte of the bit 1 and the length: the fewest that make a whole number of blocks
+-- The zero bytes behind the byte that begins with the bit 1. The standard's k, the least with l + 1 + k ≡ 448 mod 512, counts
+-- in bits; in bytes this is the least with len + 1 + zeros ≡ 56 mod 64 (proved in Laws).
 unfoldable pub zeros : ℕ → ℕ
 zeros len = (119 - len % 64) % 64
 
@@ -100,7 +101,16 @@ pub record Eight : Type 0 where
   pub h : ℕ
 
 unfoldable pub H₀ : Eight
-H₀ = record { a = 0x6a09e667; b = 0xbb67ae85; c = 0x3c6ef372; d = 0xa54ff53a; e = 0x510e527f; f = 0x9b05688c; g = 0x1f83d9ab; h = 0x5be0cd19 }
+H₀ = record {
+  a = 0x6a09e667;
+  b = 0xbb67ae85;
+  c = 0x3c6ef372;
+  d = 0xa54ff53a;
+  e = 0x510e527f;
+  f = 0x9b05688c;
+  g = 0x1f83d9ab;
+  h = 0x5be0cd19;
+}
 
 -- ---- 6.2.2: the hash computation
 
@@ -125,7 +135,16 @@ unfoldable pub T₂ : Eight → ℕ
 T₂ v = Σ₀ (v .a) ⊞ Maj (v .a) (v .b) (v .c)
 
 unfoldable pub round : Eight → ℕ → ℕ → Eight
-round v k w = record { h = v .g; g = v .f; f = v .e; e = v .d ⊞ T₁ v k w; d = v .c; c = v .b; b = v .a; a = T₁ v k w ⊞ T₂ v }
+round v k w = record {
+  h = v .g;
+  g = v .f;
+  f = v .e;
+  e = v .d ⊞ T₁ v k w;
+  d = v .c;
+  c = v .b;
+  b = v .a;
+  a = T₁ v k w ⊞ T₂ v;
+}
 
 -- the working variables after the turns for 0 to t - 1
 unfoldable pub rounds : List ℕ → Eight → ℕ → Eight
@@ -134,7 +153,16 @@ rounds W v (suc t) = round (rounds W v t) (getD K t 0) (getD W t 0)
 
 -- 4. the intermediate hash value
 unfoldable pub plus : Eight → Eight → Eight
-plus v H = record { a = v .a ⊞ H .a; b = v .b ⊞ H .b; c = v .c ⊞ H .c; d = v .d ⊞ H .d; e = v .e ⊞ H .e; f = v .f ⊞ H .f; g = v .g ⊞ H .g; h = v .h ⊞ H .h }
+plus v H = record {
+  a = v .a ⊞ H .a;
+  b = v .b ⊞ H .b;
+  c = v .c ⊞ H .c;
+  d = v .d ⊞ H .d;
+  e = v .e ⊞ H .e;
+  f = v .f ⊞ H .f;
+  g = v .g ⊞ H .g;
+  h = v .h ⊞ H .h;
+}
 
 -- 1. to 4. for one block; 2. sets the working variables to the hash value before it
 unfoldable pub compress : Eight → List ℕ → Eight
@@ -148,7 +176,8 @@ hash H padded (suc i) = compress (hash H padded i) (M padded i)
 -- H_0 to H_7, one after the other
 unfoldable pub result : Eight → List ℕ
 result H =
-    bytesOf 4 (H .a) ++ bytesOf 4 (H .b) ++ bytesOf 4 (H .c) ++ bytesOf 4 (H .d) ++ bytesOf 4 (H .e) ++ bytesOf 4 (H .f) ++ bytesOf 4 (H .g) ++ bytesOf 4 (H .h)
+    bytesOf 4 (H .a) ++ bytesOf 4 (H .b) ++ bytesOf 4 (H .c) ++ bytesOf 4 (H .d)
+    ++ bytesOf 4 (H .e) ++ bytesOf 4 (H .f) ++ bytesOf 4 (H .g) ++ bytesOf 4 (H .h)
 
 -- the message digest: 32 bytes
 unfoldable pub sha256 : List ℕ → List ℕ

@@ -1,7 +1,7 @@
 -- The message schedule as it stands in an array that is filled step by step.
 use mathlib.Core.Path.{_≡_, refl, sym, ap, _∙_}
 use mathlib.Core.List.{List, [], _∷_, _++_}
-use Prim.Native.Nat.{ℕ, zero, suc, _+_, _-_, _≤_, _<_}
+use Prim.Native.Nat.{ℕ, suc, _+_, _-_, _≤_, _<_}
 use native.Mathlib.Numerals.{add-one}
 use native.Mathlib.Omega.{arith}
 use lib.ListN.{length, getD, take, set, length-set}
@@ -21,7 +21,9 @@ pub record Filling (W₀ W : List ℕ) (t : ℕ) : Type 0 where
 
 next-take : (W : List ℕ) (t : ℕ) → 16 ≤ t → next W t ≡ next (take t W) t
 unfolding next
-next-take W t h = rw (getD-take t W (t - 2) 0 (omega arith), getD-take t W (t - 7) 0 (omega arith), getD-take t W (t - 15) 0 (omega arith), getD-take t W (t - 16) 0 (omega arith))
+next-take W t h =
+    let earlier : (i : ℕ) → i < t → getD (take t W) i 0 ≡ getD W i 0 = λ i l. getD-take t W i 0 l in
+    rw (earlier (t - 2) (omega arith), earlier (t - 7) (omega arith), earlier (t - 15) (omega arith), earlier (t - 16) (omega arith))
 
 pub filling-none : (W : List ℕ) → length W ≡ 64 → Filling W W 16
 unfolding schedule
@@ -45,7 +47,8 @@ filling-next {W₀} {W} {t} F h u e =
       long = simp length-set (F .long);
       from = omega arith;
       upto = omega arith;
-      is = take-grown W t (F .from) (omega arith) ∙ ap (λ (l : List ℕ). upto l t) (F .is) ∙ schedule-next (take 16 W₀) t (F .from);
+      is = take-grown W t (F .from) (omega arith) ∙ ap (λ (l : List ℕ). upto l t) (F .is)
+          ∙ schedule-next (take 16 W₀) t (F .from);
     })
 
 pub filling-four : {W₀ W W' : List ℕ} {t : ℕ} → Filling W₀ W t → t + 4 ≤ 64

@@ -13,7 +13,8 @@ use Rattle.spans.specs.WordLaws.{words-take}
 use Rattle.sha256.specs.Fips.{Eight, M, zeros, pad, H₀, compress, hash}
 
 -- one more block
-pub hash-next : (H : Eight) (p : List ℕ) (i : ℕ) (v r : Eight) → v ≡ hash H p i → r ≡ compress v (words 4 16 (drop (64 * i) p)) → r ≡ hash H p (i + 1)
+pub hash-next : (H : Eight) (p : List ℕ) (i : ℕ) (v r : Eight) → v ≡ hash H p i
+    → r ≡ compress v (words 4 16 (drop (64 * i) p)) → r ≡ hash H p (i + 1)
 unfolding hash M
 hash-next H p i v r e d = rw add-one (d ∙ ap (λ (x : Eight). compress x (words 4 16 (drop (64 * i) p))) e)
 
@@ -25,7 +26,8 @@ hash-split H p a (suc b) =
     let e : 64 * a + 64 * b ≡ 64 * (a + b) = omega arith in
     rw add-suc
     (ap (λ (v : Eight). compress v (words 4 16 (drop (64 * (a + b)) p))) (hash-split H p a b)
-    ∙ ap (λ (x : List ℕ). compress (hash (hash H p a) (drop (64 * a) p) b) (words 4 16 x)) (ap (λ (k : ℕ). drop k p) (sym e) ∙ sym (drop-drop (64 * b) (64 * a) p)))
+    ∙ ap (λ (x : List ℕ). compress (hash (hash H p a) (drop (64 * a) p) b) (words 4 16 x)) (ap (λ (k : ℕ). drop k p) (sym e)
+    ∙ sym (drop-drop (64 * b) (64 * a) p)))
 
 -- what stands behind the blocks does not count
 hash-take : (H : Eight) (p : List ℕ) (n k : ℕ) → 64 * n ≤ k → hash H (take k p) n ≡ hash H p n

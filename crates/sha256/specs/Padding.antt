@@ -1,5 +1,5 @@
 -- The end of the padded message (5.1.1), as it stands in an array of two blocks.
-use mathlib.Core.Path.{_≡_, refl, sym, ap, ap₂, _∙_}
+use mathlib.Core.Path.{_≡_, sym, ap, ap₂, _∙_}
 use mathlib.Core.List.{List, [], _∷_, _++_, append-assoc}
 use Prim.Native.Nat.{ℕ, _+_, _-_, _*_, _/_, _%_, _^_, _≤_, _<_}
 use native.Mathlib.Nat.{mul-comm}
@@ -14,7 +14,8 @@ use Rattle.spans.specs.WordLaws.{length-bytesOf, bytesOf-mod, bytesOf-split}
 use Rattle.sha256.specs.Fips.{zeros, pad}
 
 -- the length field, written as two words
-pub put-length : (xs : List ℕ) (at size hi lo : ℕ) → hi ≡ size * 2 ^ 3 % 2 ^ 64 / 2 ^ 32 % 2 ^ 32 → lo ≡ size * 2 ^ 3 % 2 ^ 64 % 2 ^ 32
+pub put-length : (xs : List ℕ) (at size hi lo : ℕ) → hi ≡ size * 2 ^ 3 % 2 ^ 64 / 2 ^ 32 % 2 ^ 32
+    → lo ≡ size * 2 ^ 3 % 2 ^ 64 % 2 ^ 32
     → put (put xs at (bytesOf 4 hi)) (at + 4) (bytesOf 4 lo) ≡ put xs at (bytesOf 8 (8 * size))
 put-length xs at size hi lo h l =
     let bits : ℕ = size * 2 ^ 3 % 2 ^ 64 in
@@ -25,7 +26,8 @@ put-length xs at size hi lo h l =
     ap (λ (n : ℕ). put (put xs at (bytesOf 4 hi)) (at + n) (bytesOf 4 lo)) (sym (length-bytesOf 4 hi))
     ∙ put-join xs at (bytesOf 4 hi) (bytesOf 4 lo) ∙ ap (put xs at) e
 
-module _ (m : List ℕ) (from rest count : ℕ) (whole : from + rest ≡ length m) (at-block : from % 64 ≡ 0) (few : rest < 64) (count-is : count ≡ (rest + 72) / 64) where
+module _ (m : List ℕ) (from rest count : ℕ) (whole : from + rest ≡ length m) (at-block : from % 64 ≡ 0) (few : rest < 64)
+    (count-is : count ≡ (rest + 72) / 64) where
   zeros-is : zeros (length m) ≡ 64 * count - 8 - (rest + 1)
   unfolding zeros
   zeros-is = rw (sym whole) (omega arith)
@@ -49,7 +51,8 @@ module _ (m : List ℕ) (from rest count : ℕ) (whole : from + rest ≡ length 
       let L : List ℕ = bytesOf 8 (8 * length m) in
       let l : from ≤ length (m ++ (128 ∷ replicate z 0)) = simp length-append (omega arith) in
       drop-append-le from (m ++ (128 ∷ replicate z 0)) L l
-      ∙ ap (λ (x : List ℕ). x ++ L) (drop-append-le from m (128 ∷ replicate z 0) (omega arith) ∙ sym (append-assoc (drop from m) (128 ∷ []) (replicate z 0)))
+      ∙ ap (λ (x : List ℕ). x ++ L) (drop-append-le from m (128 ∷ replicate z 0) (omega arith)
+      ∙ sym (append-assoc (drop from m) (128 ∷ []) (replicate z 0)))
       ∙ ap (λ (k : ℕ). drop from m ++ (128 ∷ []) ++ replicate k 0 ++ L) zeros-is
 
   -- put into n zeros, and the length put at the end of the last block, it is what the padded message ends with
@@ -71,7 +74,9 @@ module _ (m : List ℕ) (from rest count : ℕ) (whole : from + rest ≡ length 
         ∙ take-append-add begun (replicate (n - length begun) 0) (64 * count - 8 - (rest + 1))
         ∙ ap (λ (x : List ℕ). begun ++ x) (take-replicate (64 * count - 8 - (rest + 1)) (n - length begun) 0 l)
 
-    pub ending : take (64 * count) (put (put (put (replicate n 0) 0 (part m from rest)) rest (128 ∷ [])) (64 * count - 8) (bytesOf 8 (8 * length m))) ≡ drop from (pad m)
+    pub ending : take (64 * count)
+        (put (put (put (replicate n 0) 0 (part m from rest)) rest (128 ∷ [])) (64 * count - 8) (bytesOf 8 (8 * length m)))
+        ≡ drop from (pad m)
     ending =
         let L : List ℕ = bytesOf 8 (8 * length m) in
         let e : 64 * count ≡ 64 * count - 8 + length L = omega (arith, length-bytesOf 8 (8 * length m)) in
@@ -88,7 +93,8 @@ pub record Ending (m : List ℕ) (from count : ℕ) (tail : List ℕ) : Type 0 w
   pub is : take (64 * count) tail ≡ drop from (pad m)
 
 -- three stores make it: what is left of the message, the bit 1, the length
-pub ending-of : (m : List ℕ) (from rest count : ℕ) (tail₀ tail₁ tail₂ : List ℕ) → from % 64 ≡ 0 → from + rest ≡ length m → rest < 64
+pub ending-of : (m : List ℕ) (from rest count : ℕ) (tail₀ tail₁ tail₂ : List ℕ) → from % 64 ≡ 0 → from + rest ≡ length m
+    → rest < 64
     → count ≡ (rest + 72) / 64 → tail₀ ≡ replicate 128 0 → tail₁ ≡ put tail₀ 0 (part m from rest)
     → tail₂ ≡ put (set tail₁ rest 128) (64 * count - 8) (bytesOf 8 (8 * length m)) → Ending m from count tail₂
 ending-of m from rest count tail₀ tail₁ tail₂ at-block all few count-is e₀ e₁ e₂ = record {
@@ -98,6 +104,7 @@ ending-of m from rest count tail₀ tail₁ tail₂ at-block all few count-is e�
   is =
       ap (take (64 * count))
       (e₂ ∙ ap (λ (t : List ℕ). put t (64 * count - 8) (bytesOf 8 (8 * length m)))
-      (set-put tail₁ rest 128 ∙ ap (λ (t : List ℕ). put t rest (128 ∷ [])) (e₁ ∙ ap (λ (t : List ℕ). put t 0 (part m from rest)) e₀)))
+      (set-put tail₁ rest 128 ∙ ap (λ (t : List ℕ). put t rest (128 ∷ [])) (e₁
+      ∙ ap (λ (t : List ℕ). put t 0 (part m from rest)) e₀)))
       ∙ ending m from rest count all at-block few count-is 128 (omega arith);
 }

@@ -1,9 +1,8 @@
 -- The result as it is written, word by word.
 use mathlib.Core.Path.{_≡_, refl, sym, ap, _∙_}
-use mathlib.Core.List.{List, [], _∷_, _++_, append-assoc}
+use mathlib.Core.List.{List, _++_, append-assoc}
 use Prim.Native.Nat.{ℕ, _+_}
-use native.Mathlib.Omega.{arith}
-use lib.ListN.{length, replicate, length-append}
+use lib.ListN.{length, length-append}
 use Rattle.spans.specs.Bytes.{put}
 use Rattle.spans.specs.Laws.{put-all}
 use Rattle.spans.specs.Runs.{put-on}
@@ -29,4 +28,5 @@ unfolding result
 put-result H xs l =
     let front = four (H .a) (H .b) (H .c) (H .d) in
     let e : 16 ≡ 0 + length front = simp (length-append, length-bytesOf) in
-    put-on xs 0 front (four (H .e) (H .f) (H .g) (H .h)) 16 e ∙ ap (put xs 0) (simp append-assoc) ∙ put-all xs (result H) (l ∙ sym (length-result H))
+    put-on xs 0 front (four (H .e) (H .f) (H .g) (H .h)) 16 e ∙ ap (put xs 0) (simp append-assoc) ∙ put-all xs (result H) (l
+    ∙ sym (length-result H))

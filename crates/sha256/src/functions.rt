@@ -2,10 +2,11 @@
 ghost use mathlib.Core.Path.{_≡_};
 ghost use Rattle.sha256.specs.Fips.{Ch, Maj, Σ₀, Σ₁, σ₀, σ₁};
 
+// Without the complement: two operations fewer in each of the 64 turns.
 pub fn ch(x: u32, y: u32, z: u32) -> u32
     ensures { λ r. ⌜ r ≡ Ch x y z ⌝ }
 {
-    (x & y) ^ (!x & z)
+    z ^ (x & (y ^ z))
 }
 
 pub fn maj(x: u32, y: u32, z: u32) -> u32

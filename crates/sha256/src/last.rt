@@ -1,7 +1,7 @@
 // The end of the padded message (5.1.1): what is left of the message, the bit 1, zero bits and the length.
 ghost use mathlib.Core.Path.{_≡_};
 ghost use Prim.Native.Nat.{_+_, _*_, _%_, _^_, _≤_, _<_};
-ghost use lib.ListN.{length, take, drop, replicate};
+ghost use lib.ListN.{length, replicate};
 ghost use Rattle.spans.specs.Bytes.{put};
 ghost use Rattle.spans.specs.Words.{bytesOf};
 ghost use Rattle.sha256.specs.Padding.{Ending};

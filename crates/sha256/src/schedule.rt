@@ -1,9 +1,7 @@
 // The message schedule: 6.2.2, step 1.
 ghost use mathlib.Core.Path.{_≡_};
-ghost use Prim.Native.Nat.{_+_, _*_, _≤_, _<_};
-ghost use lib.ListN.{length, take, drop};
-ghost use Rattle.spans.specs.Words.{words, number};
-ghost use Rattle.spans.specs.Bytes.{part};
+ghost use Prim.Native.Nat.{_+_, _≤_, _<_};
+ghost use lib.ListN.{length, take};
 ghost use Rattle.sha256.specs.Fips.{next, schedule};
 ghost use Rattle.sha256.specs.Grown.{grown};
 use super::functions;

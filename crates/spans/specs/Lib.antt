@@ -7,3 +7,4 @@ pub mod Runs
 pub mod Words
 pub mod WordLaws
 pub mod Table
+pub mod BitLaws

@@ -10,7 +10,8 @@ use Rattle.spans.specs.Bytes.{put}
 use Rattle.spans.specs.Laws.{put-is, put-join, set-put, put-next}
 
 -- four bytes stored one after the other, as straight code has it
-pub put-four : (xs : List ℕ) (at a b c d : ℕ) → set (set (set (set xs at a) (at + 1) b) (at + 2) c) (at + 3) d ≡ put xs at (a ∷ b ∷ c ∷ d ∷ [])
+pub put-four : (xs : List ℕ) (at a b c d : ℕ)
+    → set (set (set (set xs at a) (at + 1) b) (at + 2) c) (at + 3) d ≡ put xs at (a ∷ b ∷ c ∷ d ∷ [])
 put-four xs at a b c d =
     rw (set-put xs at a, put-next xs at (a ∷ []) b (at + 1) refl, put-next xs at (a ∷ b ∷ []) c (at + 2) refl)
     (put-next xs at (a ∷ b ∷ c ∷ []) d (at + 3) refl)
@@ -39,10 +40,12 @@ drop-take (suc k) (suc n) (x ∷ xs) = drop-take k n xs ∙ rw suc-sub-suc refl
 pub put-run : (n a : ℕ) (ys : List ℕ) → length ys ≤ n → put (replicate n a) 0 ys ≡ ys ++ replicate (n - length ys) a
 put-run n a ys h =
     let l : 0 + length ys ≤ length (replicate n a) = simp length-replicate (omega arith) in
-    put-is (replicate n a) 0 ys l ∙ ap (λ (k : ℕ). ys ++ drop k (replicate n a)) (zero-add (length ys)) ∙ ap (λ (r : List ℕ). ys ++ r) (drop-replicate (length ys) n a)
+    put-is (replicate n a) 0 ys l ∙ ap (λ (k : ℕ). ys ++ drop k (replicate n a)) (zero-add (length ys))
+    ∙ ap (λ (r : List ℕ). ys ++ r) (drop-replicate (length ys) n a)
 
 -- what stands up to the end of a put
-pub take-put : (xs : List ℕ) (at : ℕ) (ys : List ℕ) (n : ℕ) → n ≡ at + length ys → n ≤ length xs → take n (put xs at ys) ≡ take at xs ++ ys
+pub take-put : (xs : List ℕ) (at : ℕ) (ys : List ℕ) (n : ℕ) → n ≡ at + length ys → n ≤ length xs
+    → take n (put xs at ys) ≡ take at xs ++ ys
 take-put xs at ys n e h =
     let l : length (take at xs ++ ys) ≡ n = simp (length-append, length-take) (omega arith) in
     ap (take n) (put-is xs at ys (omega arith)) ∙ take-at (take at xs ++ ys) (drop (at + length ys) xs) n l

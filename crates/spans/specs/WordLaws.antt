@@ -2,7 +2,7 @@
 use mathlib.Core.Path.{_≡_, refl, sym, ap, _∙_}
 use mathlib.Core.List.{List, [], _∷_, _++_}
 use Prim.Native.Nat.{ℕ, zero, suc, _+_, _*_, _/_, _%_, _^_, _-_, _≤_, _<_}
-use native.Mathlib.Nat.{zero-add, suc-add, mul-suc, mul-zero, add-zero, add-comm}
+use native.Mathlib.Nat.{zero-add, suc-add, mul-suc, mul-zero, add-comm}
 use native.Mathlib.Numerals.{add-one}
 use native.Mathlib.Omega.{arith}
 use lib.ListN.{length, getD, take, drop, set}
@@ -73,7 +73,8 @@ unfolding part
 store-next w xs at ws n v h e d =
     rw add-one
     (take-suc-set ws n v h ∙ ap (λ (l : List ℕ). l ++ (v ∷ [])) e ∙ ap (λ (x : ℕ). words w n (drop at xs) ++ (x ∷ [])) d
-    ∙ ap (λ (l : List ℕ). words w n (drop at xs) ++ (number (take w l) ∷ [])) (sym (drop-drop (w * n) at xs)) ∙ sym (words-next w n (drop at xs)))
+    ∙ ap (λ (l : List ℕ). words w n (drop at xs) ++ (number (take w l) ∷ [])) (sym (drop-drop (w * n) at xs))
+    ∙ sym (words-next w n (drop at xs)))
 
 -- ---- writing
 
@@ -81,14 +82,16 @@ store-next w xs at ws n v h e d =
 byte-mod : (x b k : ℕ) → k + 8 ≤ b → x % 2 ^ b / 2 ^ k % 256 ≡ x / 2 ^ k % 256
 byte-mod x b k h =
     let e : b ≡ b - k - 8 + 8 + k = omega arith in
-    ap (λ (n : ℕ). x % 2 ^ n / 2 ^ k % 256) e ∙ ap (λ (n : ℕ). n % 256) (field x (b - k - 8 + 8) k) ∙ mod-mod-pow (x / 2 ^ k) (b - k - 8) 8
+    ap (λ (n : ℕ). x % 2 ^ n / 2 ^ k % 256) e ∙ ap (λ (n : ℕ). n % 256) (field x (b - k - 8 + 8) k)
+    ∙ mod-mod-pow (x / 2 ^ k) (b - k - 8) 8
 
 pub bytesOf-mod : (n x b : ℕ) → 8 * n ≤ b → bytesOf n (x % 2 ^ b) ≡ bytesOf n x
 unfolding bytesOf
 bytesOf-mod zero x b h = refl
 bytesOf-mod (suc n) x b h =
     let k : 8 * n + 8 ≤ b = omega arith in
-    ap (λ (d : ℕ). d ∷ bytesOf n (x % 2 ^ b)) (byte-mod x b (8 * n) k) ∙ ap {B = List ℕ} (λ r. x / 2 ^ (8 * n) % 256 ∷ r) (bytesOf-mod n x b (omega arith))
+    ap (λ (d : ℕ). d ∷ bytesOf n (x % 2 ^ b)) (byte-mod x b (8 * n) k)
+    ∙ ap {B = List ℕ} (λ r. x / 2 ^ (8 * n) % 256 ∷ r) (bytesOf-mod n x b (omega arith))
 
 -- the higher bytes, then the lower
 pub bytesOf-split : (n m x : ℕ) → bytesOf (n + m) x ≡ bytesOf n (x / 2 ^ (8 * m)) ++ bytesOf m x
@@ -97,5 +100,28 @@ bytesOf-split zero m x = rw zero-add refl
 bytesOf-split (suc n) m x =
     let e : 8 * (n + m) ≡ 8 * m + 8 * n = omega arith in
     rw suc-add
-    (ap (λ (k : ℕ). x / 2 ^ k % 256 ∷ bytesOf (n + m) x) e ∙ ap (λ (y : ℕ). y % 256 ∷ bytesOf (n + m) x) (sym (shr-shr x (8 * m) (8 * n)))
+    (ap (λ (k : ℕ). x / 2 ^ k % 256 ∷ bytesOf (n + m) x) e
+    ∙ ap (λ (y : ℕ). y % 256 ∷ bytesOf (n + m) x) (sym (shr-shr x (8 * m) (8 * n)))
     ∙ ap {B = List ℕ} (λ r. x / 2 ^ (8 * m) / 2 ^ (8 * n) % 256 ∷ r) (bytesOf-split n m x))
+
+-- every number of the list is below b
+pub record Below (b : ℕ) (xs : List ℕ) : Type 0 where
+  pub at : (i : ℕ) → getD xs i 0 < b
+
+byte-below : (n x i : ℕ) → getD (bytesOf n x) i 0 < 256
+unfolding bytesOf
+byte-below zero x i = omega arith
+byte-below (suc n) x zero = omega arith
+byte-below (suc n) x (suc i) = byte-below n x i
+
+pub below-bytesOf : (n x : ℕ) → Below 256 (bytesOf n x)
+below-bytesOf n x = record { at = byte-below n x }
+
+append-below : (xs ys : List ℕ) (b : ℕ) → ((i : ℕ) → getD xs i 0 < b) → ((i : ℕ) → getD ys i 0 < b) → (i : ℕ)
+    → getD (xs ++ ys) i 0 < b
+append-below [] ys b h l i = l i
+append-below (x ∷ xs) ys b h l zero = h zero
+append-below (x ∷ xs) ys b h l (suc i) = append-below xs ys b (λ j. h (suc j)) l i
+
+pub below-append : {b : ℕ} {xs ys : List ℕ} → Below b xs → Below b ys → Below b (xs ++ ys)
+below-append {b} {xs} {ys} h l = record { at = append-below xs ys b (h .at) (l .at) }

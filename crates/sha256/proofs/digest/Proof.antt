@@ -6,12 +6,6 @@ use Rattle.sha256.specs.Hashes.{hash-pad}
 use borrow.Author.Needs.{needs}
 use Rattle.sha256.proofs.digest.Statement.{statement}
 use Rattle.sha256.proofs.digest.Tie as tie
-use Rattle.sha256.proofs.digest.Reads as reads
-use Rattle.sha256.proofs.digest.Lts as lts
-use Rattle.sha256.proofs.blocks.absorb.Reads as absorb-reads
-use Rattle.sha256.proofs.last.finish.Reads as finish-reads
-use Rattle.sha256.proofs.result_of.Reads as result-of-reads
-use Rattle.sha256.proofs.start.Reads as start-reads
 
 mul-finish : tie.Need-mul-finish
 mul-finish c = search needs

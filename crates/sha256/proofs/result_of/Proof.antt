@@ -5,9 +5,6 @@ use Rattle.sha256.specs.Turns.{eight}
 use borrow.Author.Needs.{needs}
 use Rattle.sha256.proofs.result_of.Statement.{statement}
 use Rattle.sha256.proofs.result_of.Tie as tie
-use Rattle.sha256.proofs.result_of.Reads as reads
-use Rattle.sha256.proofs.result_of.Lts as lts
-use Rattle.sha256.proofs.words.put_four.Reads as put-four-reads
 
 slice-aggregate-put-four : tie.Need-slice-aggregate-put-four
 slice-aggregate-put-four c = search needs

@@ -3,9 +3,6 @@ use lib.ListN.{length-take}
 use borrow.Author.Needs.{needs}
 use Rattle.vectors.proofs.front.Statement.{statement}
 use Rattle.vectors.proofs.front.Tie as tie
-use Rattle.vectors.proofs.front.Reads as reads
-use Rattle.vectors.proofs.front.Lts as lts
-use Rattle.vectors.proofs.vector.Reads as vector-reads
 
 slice-aggregate-vector : tie.Need-slice-aggregate-vector
 slice-aggregate-vector c = simp length-take (omega arith)

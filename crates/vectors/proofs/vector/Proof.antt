@@ -4,11 +4,6 @@ use Rattle.sha256.specs.Laws.{length-sha256}
 use borrow.Author.Needs.{needs}
 use Rattle.vectors.proofs.vector.Statement.{statement}
 use Rattle.vectors.proofs.vector.Tie as tie
-use Rattle.vectors.proofs.vector.Reads as reads
-use Rattle.vectors.proofs.vector.Lts as lts
-use Rattle.check.proofs.same.Reads as same-reads
-use Rattle.io.proofs.write_all.Reads as write-all-reads
-use Rattle.sha256.proofs.digest.Reads as digest-reads
 
 digest-requires : tie.Need-digest-requires
 digest-requires c κs = search needs

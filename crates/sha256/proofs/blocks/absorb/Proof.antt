@@ -1,5 +1,5 @@
-use mathlib.Core.Path.{_≡_, refl, ap, _∙_}
-use Prim.Native.Nat.{ℕ, _-_, _≤_}
+use mathlib.Core.Path.{_≡_, refl}
+use Prim.Native.Nat.{_-_, _≤_}
 use native.Mathlib.Omega.{arith}
 use lib.ListN.{length}
 use Rattle.sha256.specs.Fips.{hash}
@@ -8,9 +8,6 @@ use Rattle.sha256.specs.Turns.{eight}
 use borrow.Author.Needs.{needs}
 use Rattle.sha256.proofs.blocks.absorb.Statement.{statement}
 use Rattle.sha256.proofs.blocks.absorb.Tie as tie
-use Rattle.sha256.proofs.blocks.absorb.Reads as reads
-use Rattle.sha256.proofs.blocks.absorb.Lts as lts
-use Rattle.sha256.proofs.blocks.block.Reads as block-reads
 
 abbrev Inv-loop : tie.InvT-loop
 Inv-loop bytes count w₀ s₀ i₀ w s i = (i ≤ count) × (length w ≡ 64) × (eight s ≡ hash (eight s₀) bytes i)

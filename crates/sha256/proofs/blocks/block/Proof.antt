@@ -2,11 +2,6 @@ use Rattle.sha256.specs.Fips.{compress}
 use borrow.Author.Needs.{needs}
 use Rattle.sha256.proofs.blocks.block.Statement.{statement}
 use Rattle.sha256.proofs.blocks.block.Tie as tie
-use Rattle.sha256.proofs.blocks.block.Reads as reads
-use Rattle.sha256.proofs.blocks.block.Lts as lts
-use Rattle.sha256.proofs.blocks.load.Reads as load-reads
-use Rattle.sha256.proofs.rounds.compress.Reads as compress-reads
-use Rattle.sha256.proofs.schedule.extend.Reads as extend-reads
 
 load-requires : tie.Need-load-requires
 load-requires c κs = search needs

@@ -1,5 +1,5 @@
-use mathlib.Core.Path.{_≡_, refl, ap, _∙_}
-use Prim.Native.Nat.{ℕ, _-_, _≤_}
+use mathlib.Core.Path.{_≡_, refl}
+use Prim.Native.Nat.{_-_, _≤_}
 use native.Mathlib.Omega.{arith}
 use lib.ListN.{length, take, drop, length-set}
 use Rattle.spans.specs.Words.{words}
@@ -7,9 +7,6 @@ use Rattle.spans.specs.WordLaws.{store-next}
 use borrow.Author.Needs.{needs}
 use Rattle.sha256.proofs.blocks.load.Statement.{statement}
 use Rattle.sha256.proofs.blocks.load.Tie as tie
-use Rattle.sha256.proofs.blocks.load.Reads as reads
-use Rattle.sha256.proofs.blocks.load.Lts as lts
-use Rattle.sha256.proofs.words.word.Reads as word-reads
 
 abbrev Inv-loop : tie.InvT-loop
 Inv-loop bytes at w₀ i₀ w i = (i ≤ 16) × (length w ≡ 64) × (take i w ≡ words 4 i (drop at bytes))

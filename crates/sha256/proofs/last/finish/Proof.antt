@@ -6,10 +6,6 @@ use Rattle.sha256.specs.Padding.{ending-of}
 use borrow.Author.Needs.{needs}
 use Rattle.sha256.proofs.last.finish.Statement.{statement}
 use Rattle.sha256.proofs.last.finish.Tie as tie
-use Rattle.sha256.proofs.last.finish.Reads as reads
-use Rattle.sha256.proofs.last.finish.Lts as lts
-use Rattle.sha256.proofs.last.put_length.Reads as put-length-reads
-use Rattle.spans.proofs.copy.Reads as copy-reads
 
 sub-rest : tie.Need-sub-rest
 sub-rest c = search needs
@@ -34,7 +30,8 @@ put-length-requires c κs = simp length-set (omega (arith, ap length (c .before 
 
 same-length : tie.Need-same-length
 same-length c =
-    simp (length-put, length-set) at (ap length (c .before .before .put-length .ensures)) ∙ simp length-put at (ap length (c .before .before .before .before .before .before .copy .ensures))
+    simp (length-put, length-set) at (ap length (c .before .before .put-length .ensures))
+    ∙ simp length-put at (ap length (c .before .before .before .before .before .before .copy .ensures))
 
 returns : tie.Need-returns
 returns c =

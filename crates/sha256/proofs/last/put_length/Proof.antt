@@ -2,10 +2,6 @@ use Rattle.sha256.specs.Padding.{put-length}
 use borrow.Author.Needs.{needs}
 use Rattle.sha256.proofs.last.put_length.Statement.{statement}
 use Rattle.sha256.proofs.last.put_length.Tie as tie
-use Rattle.sha256.proofs.last.put_length.Reads as reads
-use Rattle.sha256.proofs.last.put_length.Lts as lts
-use Rattle.sha256.proofs.last.half.Reads as half-reads
-use Rattle.sha256.proofs.words.put_word.Reads as put-word-reads
 
 half-requires : tie.Need-half-requires
 half-requires c κs = search needs

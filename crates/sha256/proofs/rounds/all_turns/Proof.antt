@@ -1,14 +1,11 @@
 use mathlib.Core.Path.{_≡_, refl, ap, _∙_}
-use Prim.Native.Nat.{ℕ, _-_, _%_, _≤_}
+use Prim.Native.Nat.{_-_, _%_, _≤_}
 use native.Mathlib.Omega.{arith}
 use Rattle.sha256.specs.Fips.{K, rounds}
 use Rattle.sha256.specs.Turns.{eight, rounds-none, rounds-eight}
 use borrow.Author.Needs.{needs}
 use Rattle.sha256.proofs.rounds.all_turns.Statement.{statement}
 use Rattle.sha256.proofs.rounds.all_turns.Tie as tie
-use Rattle.sha256.proofs.rounds.all_turns.Reads as reads
-use Rattle.sha256.proofs.rounds.all_turns.Lts as lts
-use Rattle.sha256.proofs.rounds.eight_turns.Reads as eight-turns-reads
 
 abbrev Inv-loop : tie.InvT-loop
 Inv-loop w k s₀ t₀ s t = (k ≡ K) × (t ≤ 64) × (t % 8 ≡ 0) × (eight s ≡ rounds w (eight s₀) t)

@@ -1,10 +1,6 @@
 use borrow.Author.Needs.{needs}
 use Rattle.sha256.proofs.rounds.compress.Statement.{statement}
 use Rattle.sha256.proofs.rounds.compress.Tie as tie
-use Rattle.sha256.proofs.rounds.compress.Reads as reads
-use Rattle.sha256.proofs.rounds.compress.Lts as lts
-use Rattle.sha256.proofs.rounds.all_turns.Reads as all-turns-reads
-use Rattle.sha256.proofs.rounds.sum.Reads as sum-reads
 
 all-turns-requires : tie.Need-all-turns-requires
 all-turns-requires c κs = search needs

@@ -2,9 +2,6 @@ use Rattle.sha256.specs.Turns.{eightTurns}
 use borrow.Author.Needs.{needs}
 use Rattle.sha256.proofs.rounds.eight_turns.Statement.{statement}
 use Rattle.sha256.proofs.rounds.eight_turns.Tie as tie
-use Rattle.sha256.proofs.rounds.eight_turns.Reads as reads
-use Rattle.sha256.proofs.rounds.eight_turns.Lts as lts
-use Rattle.sha256.proofs.rounds.turn_at.Reads as turn-at-reads
 
 turn-at-requires : tie.Need-turn-at-requires
 turn-at-requires c κs = search needs

@@ -3,11 +3,6 @@ use Rattle.sha256.specs.Fips.{T₁}
 use borrow.Author.Needs.{needs}
 use Rattle.sha256.proofs.rounds.first.Statement.{statement}
 use Rattle.sha256.proofs.rounds.first.Tie as tie
-use Rattle.sha256.proofs.rounds.first.Reads as reads
-use Rattle.sha256.proofs.rounds.first.Lts as lts
-use Rattle.sha256.proofs.functions.big1.Reads as big1-reads
-use Rattle.sha256.proofs.functions.ch.Reads as ch-reads
-use Rattle.std.proofs.num.wrapping_add_u32.Reads as wrapping-add-u32-reads
 
 big1-requires : tie.Need-big1-requires
 big1-requires c κs = search needs

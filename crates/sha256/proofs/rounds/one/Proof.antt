@@ -3,11 +3,6 @@ use Rattle.sha256.specs.Fips.{round}
 use borrow.Author.Needs.{needs}
 use Rattle.sha256.proofs.rounds.one.Statement.{statement}
 use Rattle.sha256.proofs.rounds.one.Tie as tie
-use Rattle.sha256.proofs.rounds.one.Reads as reads
-use Rattle.sha256.proofs.rounds.one.Lts as lts
-use Rattle.sha256.proofs.rounds.first.Reads as first-reads
-use Rattle.sha256.proofs.rounds.second.Reads as second-reads
-use Rattle.std.proofs.num.wrapping_add_u32.Reads as wrapping-add-u32-reads
 
 first-requires : tie.Need-first-requires
 first-requires c κs = search needs

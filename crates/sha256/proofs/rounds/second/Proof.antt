@@ -3,11 +3,6 @@ use Rattle.sha256.specs.Fips.{T₂}
 use borrow.Author.Needs.{needs}
 use Rattle.sha256.proofs.rounds.second.Statement.{statement}
 use Rattle.sha256.proofs.rounds.second.Tie as tie
-use Rattle.sha256.proofs.rounds.second.Reads as reads
-use Rattle.sha256.proofs.rounds.second.Lts as lts
-use Rattle.sha256.proofs.functions.big0.Reads as big0-reads
-use Rattle.sha256.proofs.functions.maj.Reads as maj-reads
-use Rattle.std.proofs.num.wrapping_add_u32.Reads as wrapping-add-u32-reads
 
 big0-requires : tie.Need-big0-requires
 big0-requires c κs = search needs

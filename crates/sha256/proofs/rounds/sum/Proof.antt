@@ -3,9 +3,6 @@ use Rattle.sha256.specs.Fips.{plus}
 use borrow.Author.Needs.{needs}
 use Rattle.sha256.proofs.rounds.sum.Statement.{statement}
 use Rattle.sha256.proofs.rounds.sum.Tie as tie
-use Rattle.sha256.proofs.rounds.sum.Reads as reads
-use Rattle.sha256.proofs.rounds.sum.Lts as lts
-use Rattle.std.proofs.num.wrapping_add_u32.Reads as wrapping-add-u32-reads
 
 wrapping-add-u32-requires : tie.Need-wrapping-add-u32-requires
 wrapping-add-u32-requires c κs = search needs

@@ -2,9 +2,6 @@ use Rattle.sha256.specs.Turns.{turn}
 use borrow.Author.Needs.{needs}
 use Rattle.sha256.proofs.rounds.turn_at.Statement.{statement}
 use Rattle.sha256.proofs.rounds.turn_at.Tie as tie
-use Rattle.sha256.proofs.rounds.turn_at.Reads as reads
-use Rattle.sha256.proofs.rounds.turn_at.Lts as lts
-use Rattle.sha256.proofs.rounds.one.Reads as one-reads
 
 mul-one : tie.Need-mul-one
 mul-one c = search needs

@@ -5,9 +5,6 @@ use Rattle.sha256.specs.Grown.{Filling, filling-none, filling-four, fill
 use borrow.Author.Needs.{needs}
 use Rattle.sha256.proofs.schedule.extend.Statement.{statement}
 use Rattle.sha256.proofs.schedule.extend.Tie as tie
-use Rattle.sha256.proofs.schedule.extend.Reads as reads
-use Rattle.sha256.proofs.schedule.extend.Lts as lts
-use Rattle.sha256.proofs.schedule.four_words.Reads as four-words-reads
 
 abbrev Inv-loop : tie.InvT-loop
 Inv-loop w₀ t₀ w t = Filling w₀ w t × (t % 4 ≡ 0)

@@ -2,9 +2,6 @@ use Rattle.sha256.specs.Grown.{grown}
 use borrow.Author.Needs.{needs}
 use Rattle.sha256.proofs.schedule.four_words.Statement.{statement}
 use Rattle.sha256.proofs.schedule.four_words.Tie as tie
-use Rattle.sha256.proofs.schedule.four_words.Reads as reads
-use Rattle.sha256.proofs.schedule.four_words.Lts as lts
-use Rattle.sha256.proofs.schedule.next_word.Reads as next-word-reads
 
 next-word-requires : tie.Need-next-word-requires
 next-word-requires c κs = search needs

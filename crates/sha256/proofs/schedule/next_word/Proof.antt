@@ -1,12 +1,10 @@
-use Rattle.sha256.specs.Fips.{next}
+use mathlib.Core.Path.{ap, ap₂, _∙_}
+use Prim.Native.Nat.{ℕ, _-_}
+use lib.ListN.{getD}
+use Rattle.sha256.specs.Fips.{_⊞_, next}
 use borrow.Author.Needs.{needs}
 use Rattle.sha256.proofs.schedule.next_word.Statement.{statement}
 use Rattle.sha256.proofs.schedule.next_word.Tie as tie
-use Rattle.sha256.proofs.schedule.next_word.Reads as reads
-use Rattle.sha256.proofs.schedule.next_word.Lts as lts
-use Rattle.sha256.proofs.functions.small0.Reads as small0-reads
-use Rattle.sha256.proofs.functions.small1.Reads as small1-reads
-use Rattle.std.proofs.num.wrapping_add_u32.Reads as wrapping-add-u32-reads
 
 sub-small1 : tie.Need-sub-small1
 sub-small1 c = search needs
@@ -61,7 +59,15 @@ wrapping-add-u32-requires-3 c κs = search needs
 
 returns : tie.Need-returns
 unfolding next
-returns c = cc
+returns c =
+    let far = c .before .before in
+    let near = far .before .before .before in
+    let a = near .before .before .before .before .args in
+    let word : ℕ → ℕ = λ back. getD (a .w .now) (a .t - back) 0 in
+    c .wrapping-add-u323 .ensures
+    ∙ ap (λ (x : ℕ). x ⊞ word 16)
+    (far .wrapping-add-u322 .ensures
+    ∙ ap₂ _⊞_ (near .wrapping-add-u32 .ensures ∙ ap (λ (x : ℕ). x ⊞ word 7) (near .before .before .small1 .ensures)) (far .before .small0 .ensures))
 
 pub next-word-spec : {M : Type 1} → statement M
 next-word-spec =

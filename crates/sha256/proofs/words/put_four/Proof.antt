@@ -2,9 +2,6 @@ use Rattle.sha256.specs.Results.{put-words}
 use borrow.Author.Needs.{needs}
 use Rattle.sha256.proofs.words.put_four.Statement.{statement}
 use Rattle.sha256.proofs.words.put_four.Tie as tie
-use Rattle.sha256.proofs.words.put_four.Reads as reads
-use Rattle.sha256.proofs.words.put_four.Lts as lts
-use Rattle.sha256.proofs.words.put_word.Reads as put-word-reads
 
 put-word-requires : tie.Need-put-word-requires
 put-word-requires c κs = search needs

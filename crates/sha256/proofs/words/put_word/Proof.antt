@@ -6,9 +6,6 @@ use Rattle.spans.specs.Runs.{put-four}
 use borrow.Author.Needs.{needs}
 use Rattle.sha256.proofs.words.put_word.Statement.{statement}
 use Rattle.sha256.proofs.words.put_word.Tie as tie
-use Rattle.sha256.proofs.words.put_word.Reads as reads
-use Rattle.sha256.proofs.words.put_word.Lts as lts
-use Rattle.sha256.proofs.words.low.Reads as low-reads
 
 low-requires : tie.Need-low-requires
 low-requires c κs = search needs
