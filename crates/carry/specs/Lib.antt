@@ -2,4 +2,3 @@ pub mod Steps
 pub mod InArea
 pub mod Moves
 pub mod Areas
-pub mod Courses

@@ -1,13 +1,14 @@
 // The list in force, carried out.
 ghost use mathlib.Core.Path.{_≡_};
 ghost use mathlib.Core.List.{[]};
+ghost use mathlib.Core.Bool.{true};
 ghost use Rattle.flash.specs.Base.{build};
 ghost use Rattle.flash.specs.Small.{Small};
 ghost use Rattle.flash.specs.Operations.{steps};
 ghost use Rattle.plan.specs.Decision.{listOf, okUnset};
 ghost use Rattle.plan.specs.Asked.{flashOf};
 ghost use Rattle.carry.specs.Areas.{state};
-ghost use Rattle.carry.specs.Courses.{Within};
+ghost use Rattle.plan.specs.Bounds.{inBounds};
 use crate::areas::clear_out;
 use crate::areas::data_exchange;
 use crate::areas::from_line_three;
@@ -24,9 +25,16 @@ fn ok_is_unset(g: Geometry, slot0: &[u8]) -> bool
     trailer::asking::ok_unset(g, trailer::reading::slot_trailer(g, slot0))
 }
 
-pub fn carry_out(g: Geometry, course: Course, slot0: &mut [u8], slot1: &mut [u8], scratch: &mut [u8], run: Run) -> Run
+pub fn carry_out(
+    g: Geometry,
+    course: Course,
+    slot0: &mut [u8],
+    slot1: &mut [u8],
+    scratch: &mut [u8],
+    run: Run,
+) -> Run
     requires { ⌜ Small g ⌝ }
-    requires { ⌜ Within g course ⌝ }
+    requires { ⌜ inBounds (build g) course ≡ true ⌝ }
     ensures { λ r. ⌜ state (now (slot0 .exit)) (now (slot1 .exit)) (now (scratch .exit)) r ≡ steps (build g) (listOf (build g) (okUnset (build g) (flashOf (now (slot0 .entry)) (now (slot1 .entry)) (now (scratch .entry)))) course) (state (now (slot0 .entry)) (now (slot1 .entry)) (now (scratch .entry)) run) ⌝ }
 {
     match course {

@@ -1,4 +1,4 @@
 // Carrying out the lists of operations under an allowance.
 pub mod areas;
-pub mod trailers;
 pub mod courses;
+pub mod trailers;

@@ -17,8 +17,6 @@ pub mod Windows
 pub mod Validity
 pub mod Places
 pub mod Reading
-pub mod Notes
-pub mod Lines
 pub mod Hiding
 pub mod Begin
 pub mod Settling

@@ -1,3 +1,7 @@
+use Rattle.plan.specs.declared.Course.the-variants.{Resume}
+use Rattle.plan.specs.Lists.{clearOut}
+use Rattle.plan.specs.Bounds.{inBounds, resumed-bounds}
+use Rattle.trailer.specs.Trailer.{trailer}
 use mathlib.Core.Path.{_≡_, sym, ap, subst, _∙_}
 use mathlib.Core.Bool.{Bool}
 use Rattle.flash.specs.Base.{base, build}
@@ -6,7 +10,6 @@ use Rattle.plan.specs.declared.Course.{Course}
 use Rattle.plan.specs.Decision.{listOf, okUnset}
 use Rattle.plan.specs.Asked.{flashOf}
 use Rattle.carry.specs.Areas.{state}
-use Rattle.carry.specs.Courses.{Within}
 use borrow.Author.Needs.{needs}
 use Rattle.carry.proofs.courses.carry_out.Statement.{statement}
 use Rattle.carry.proofs.courses.carry_out.Tie as tie
@@ -28,8 +31,9 @@ enum-known-course-2 : tie.Need-enum-known-course-2
 enum-known-course-2 c = search needs
 
 data-exchange-requires : tie.Need-data-exchange-requires
-unfolding Within
-data-exchange-requires c κs = ?
+data-exchange-requires c κs =
+    let told : c .before .before .before .before .before .before .before .before .before .args .course ≡ Resume (c .before .before .before .before .course2 .given .0 .0) = c .before .before .before .before .course2 .given .1 in
+    (c .before .before .before .before .before .before .before .before .before .pre .0, resumed-bounds (c .before .before .before .before .before .before .before .before .before .args .g) (c .before .before .before .before .course2 .given .0 .0) (c .before .before .before .before .before .before .before .before .before .pre .0) (ap (inBounds (build (c .before .before .before .before .before .before .before .before .before .args .g))) (sym told) ∙ c .before .before .before .before .before .before .before .before .before .pre .1))
 
 enum-told : tie.Need-enum-told
 enum-told c = search needs
@@ -75,9 +79,9 @@ same-length-3 c = search needs
 
 returns : tie.Need-returns
 unfolding listOf base okUnset
-returns c = 
+returns c =
     c .before .before .before .before .before .before .from-line-three .ensures
-    ∙ ap (λ (x : Course). steps (build (c .before .before .before .before .before .before .before .before .before .before .before .before .before .before .before .before .args .g)) (listOf (build (c .before .before .before .before .before .before .before .before .before .before .before .before .before .before .before .before .args .g)) (okUnset (build (c .before .before .before .before .before .before .before .before .before .before .before .before .before .before .before .before .args .g)) (flashOf (c .before .before .before .before .before .before .before .before .before .before .before .before .before .before .before .before .args .slot0 .now) (c .before .before .before .before .before .before .before .before .before .before .before .before .before .before .before .before .args .slot1 .now) (c .before .before .before .before .before .before .before .before .before .before .before .before .before .before .before .before .args .scratch .now))) x) (state (c .before .before .before .before .before .before .before .before .before .before .before .before .before .before .before .before .args .slot0 .now) (c .before .before .before .before .before .before .before .before .before .before .before .before .before .before .before .before .args .slot1 .now) (c .before .before .before .before .before .before .before .before .before .before .before .before .before .before .before .before .args .scratch .now) (c .before .before .before .before .before .before .before .before .before .before .before .before .before .before .before .before .args .run))) (sym (c .before .before .before .before .before .before .before .before .before .before .known-told .given .1))
+    ∙ ap (λ (x : Course). steps (build (c .before .before .before .before .before .before .before .before .before .before .before .before .before .before .before .before .args .g)) (listOf (build (c .before .before .before .before .before .before .before .before .before .before .before .before .before .before .before .before .args .g)) (okUnset (build (c .before .before .before .before .before .before .before .before .before .before .before .before .before .before .before .before .args .g)) (flashOf (c .before .before .before .before .before .before .before .before .before .before .before .before .before .before .before .before .args .slot0 .now) (c .before .before .before .before .before .before .before .before .before .before .before .before .before .before .before .before .args .slot1 .now) (c .before .before .before .before .before .before .before .before .before .before .before .before .before .before .before .before .args .scratch .now))) x) (state (c .before .before .before .before .before .before .before .before .before .before .before .before .before .before .before .before .args .slot0 .now) (c .before .before .before .before .before .before .before .before .before .before .before .before .before .before .before .before .args .slot1 .now) (c .before .before .before .before .before .before .before .before .before .before .before .before .before .before .before .before .args .scratch .now) (c .before .before .before .before .before .before .before .before .before .before .before .before .before .before .before .before .args .run))) (sym (c .before .before .before .before .before .before .before .before .before .before .before .course .given .1))
 
 same-length-4 : tie.Need-same-length-4
 same-length-4 c = search needs
@@ -90,9 +94,9 @@ same-length-6 c = search needs
 
 returns-2 : tie.Need-returns-2
 unfolding listOf base okUnset
-returns-2 c = 
+returns-2 c =
     c .before .before .before .before .before .before .data-exchange .ensures
-    ∙ ap (λ (x : Course). steps (build (c .before .before .before .before .before .before .before .before .before .before .before .before .before .before .before .before .args .g)) (listOf (build (c .before .before .before .before .before .before .before .before .before .before .before .before .before .before .before .before .args .g)) (okUnset (build (c .before .before .before .before .before .before .before .before .before .before .before .before .before .before .before .before .args .g)) (flashOf (c .before .before .before .before .before .before .before .before .before .before .before .before .before .before .before .before .args .slot0 .now) (c .before .before .before .before .before .before .before .before .before .before .before .before .before .before .before .before .args .slot1 .now) (c .before .before .before .before .before .before .before .before .before .before .before .before .before .before .before .before .args .scratch .now))) x) (state (c .before .before .before .before .before .before .before .before .before .before .before .before .before .before .before .before .args .slot0 .now) (c .before .before .before .before .before .before .before .before .before .before .before .before .before .before .before .before .args .slot1 .now) (c .before .before .before .before .before .before .before .before .before .before .before .before .before .before .before .before .args .scratch .now) (c .before .before .before .before .before .before .before .before .before .before .before .before .before .before .before .before .args .run))) (sym (c .before .before .before .before .before .before .before .before .before .before .known-told2 .given .1))
+    ∙ ap (λ (x : Course). steps (build (c .before .before .before .before .before .before .before .before .before .before .before .before .before .before .before .before .args .g)) (listOf (build (c .before .before .before .before .before .before .before .before .before .before .before .before .before .before .before .before .args .g)) (okUnset (build (c .before .before .before .before .before .before .before .before .before .before .before .before .before .before .before .before .args .g)) (flashOf (c .before .before .before .before .before .before .before .before .before .before .before .before .before .before .before .before .args .slot0 .now) (c .before .before .before .before .before .before .before .before .before .before .before .before .before .before .before .before .args .slot1 .now) (c .before .before .before .before .before .before .before .before .before .before .before .before .before .before .before .before .args .scratch .now))) x) (state (c .before .before .before .before .before .before .before .before .before .before .before .before .before .before .before .before .args .slot0 .now) (c .before .before .before .before .before .before .before .before .before .before .before .before .before .before .before .before .args .slot1 .now) (c .before .before .before .before .before .before .before .before .before .before .before .before .before .before .before .before .args .scratch .now) (c .before .before .before .before .before .before .before .before .before .before .before .before .before .before .before .before .args .run))) (sym (c .before .before .before .before .before .before .before .before .before .before .before .course2 .given .1))
 
 same-length-7 : tie.Need-same-length-7
 same-length-7 c = search needs
@@ -105,7 +109,7 @@ same-length-9 c = search needs
 
 returns-3 : tie.Need-returns-3
 unfolding listOf base okUnset
-returns-3 c = 
+returns-3 c =
     c .before .before .before .before .before .before .whole-exchange .ensures
     ∙ ap (λ (x : Course). steps (build (c .before .before .before .before .before .before .before .before .before .before .before .before .before .before .before .args .g)) (listOf (build (c .before .before .before .before .before .before .before .before .before .before .before .before .before .before .before .args .g)) (okUnset (build (c .before .before .before .before .before .before .before .before .before .before .before .before .before .before .before .args .g)) (flashOf (c .before .before .before .before .before .before .before .before .before .before .before .before .before .before .before .args .slot0 .now) (c .before .before .before .before .before .before .before .before .before .before .before .before .before .before .before .args .slot1 .now) (c .before .before .before .before .before .before .before .before .before .before .before .before .before .before .before .args .scratch .now))) x) (state (c .before .before .before .before .before .before .before .before .before .before .before .before .before .before .before .args .slot0 .now) (c .before .before .before .before .before .before .before .before .before .before .before .before .before .before .before .args .slot1 .now) (c .before .before .before .before .before .before .before .before .before .before .before .before .before .before .before .args .scratch .now) (c .before .before .before .before .before .before .before .before .before .before .before .before .before .before .before .args .run))) (sym (c .before .before .before .before .before .before .before .before .before .before .enum-told .given .1))
 
@@ -120,7 +124,7 @@ same-length-12 c = search needs
 
 returns-4 : tie.Need-returns-4
 unfolding listOf base okUnset
-returns-4 c = 
+returns-4 c =
     c .before .before .before .before .before .before .whole-exchange2 .ensures
     ∙ ap (λ (x : Course). steps (build (c .before .before .before .before .before .before .before .before .before .before .before .before .before .before .before .args .g)) (listOf (build (c .before .before .before .before .before .before .before .before .before .before .before .before .before .before .before .args .g)) (okUnset (build (c .before .before .before .before .before .before .before .before .before .before .before .before .before .before .before .args .g)) (flashOf (c .before .before .before .before .before .before .before .before .before .before .before .before .before .before .before .args .slot0 .now) (c .before .before .before .before .before .before .before .before .before .before .before .before .before .before .before .args .slot1 .now) (c .before .before .before .before .before .before .before .before .before .before .before .before .before .before .before .args .scratch .now))) x) (state (c .before .before .before .before .before .before .before .before .before .before .before .before .before .before .before .args .slot0 .now) (c .before .before .before .before .before .before .before .before .before .before .before .before .before .before .before .args .slot1 .now) (c .before .before .before .before .before .before .before .before .before .before .before .before .before .before .before .args .scratch .now) (c .before .before .before .before .before .before .before .before .before .before .before .before .before .before .before .args .run))) (sym (c .before .before .before .before .before .before .before .before .before .before .enum-told2 .given .1))
 
@@ -135,7 +139,7 @@ same-length-15 c = search needs
 
 returns-5 : tie.Need-returns-5
 unfolding listOf base okUnset
-returns-5 c = 
+returns-5 c =
     c .before .before .before .before .before .before .whole-exchange3 .ensures
     ∙ ap (λ (x : Course). steps (build (c .before .before .before .before .before .before .before .before .before .before .before .before .before .before .before .args .g)) (listOf (build (c .before .before .before .before .before .before .before .before .before .before .before .before .before .before .before .args .g)) (okUnset (build (c .before .before .before .before .before .before .before .before .before .before .before .before .before .before .before .args .g)) (flashOf (c .before .before .before .before .before .before .before .before .before .before .before .before .before .before .before .args .slot0 .now) (c .before .before .before .before .before .before .before .before .before .before .before .before .before .before .before .args .slot1 .now) (c .before .before .before .before .before .before .before .before .before .before .before .before .before .before .before .args .scratch .now))) x) (state (c .before .before .before .before .before .before .before .before .before .before .before .before .before .before .before .args .slot0 .now) (c .before .before .before .before .before .before .before .before .before .before .before .before .before .before .before .args .slot1 .now) (c .before .before .before .before .before .before .before .before .before .before .before .before .before .before .before .args .scratch .now) (c .before .before .before .before .before .before .before .before .before .before .before .before .before .before .before .args .run))) (sym (c .before .before .before .before .before .before .before .before .before .before .enum-told3 .given .1))
 
@@ -146,7 +150,11 @@ same-length-17 : tie.Need-same-length-17
 same-length-17 c = search needs
 
 returns-6 : tie.Need-returns-6
-returns-6 c = ?
+unfolding listOf okUnset trailer base
+returns-6 c =
+    c .before .before .before .before .clear-out .ensures (c .before .before .before .before .before .before .before .before .before .before .before .before .before .before .args .scratch .now)
+    ∙ ap (λ (u : Bool). steps (build (c .before .before .before .before .before .before .before .before .before .before .before .before .before .before .args .g)) (clearOut (build (c .before .before .before .before .before .before .before .before .before .before .before .before .before .before .args .g)) u) (state (c .before .before .before .before .before .before .before .before .before .before .before .before .before .before .args .slot0 .now) (c .before .before .before .before .before .before .before .before .before .before .before .before .before .before .args .slot1 .now) (c .before .before .before .before .before .before .before .before .before .before .before .before .before .before .args .scratch .now) (c .before .before .before .before .before .before .before .before .before .before .before .before .before .before .args .run))) (c .before .before .before .before .before .before .before .ok-is-unset .ensures)
+    ∙ ap (λ (x : Course). steps (build (c .before .before .before .before .before .before .before .before .before .before .before .before .before .before .args .g)) (listOf (build (c .before .before .before .before .before .before .before .before .before .before .before .before .before .before .args .g)) (okUnset (build (c .before .before .before .before .before .before .before .before .before .before .before .before .before .before .args .g)) (flashOf (c .before .before .before .before .before .before .before .before .before .before .before .before .before .before .args .slot0 .now) (c .before .before .before .before .before .before .before .before .before .before .before .before .before .before .args .slot1 .now) (c .before .before .before .before .before .before .before .before .before .before .before .before .before .before .args .scratch .now))) x) (state (c .before .before .before .before .before .before .before .before .before .before .before .before .before .before .args .slot0 .now) (c .before .before .before .before .before .before .before .before .before .before .before .before .before .before .args .slot1 .now) (c .before .before .before .before .before .before .before .before .before .before .before .before .before .before .args .scratch .now) (c .before .before .before .before .before .before .before .before .before .before .before .before .before .before .args .run))) (sym (c .before .before .before .before .before .before .before .before .before .enum-told4 .given .1))
 
 returns-7 : tie.Need-returns-7
 unfolding listOf steps
