@@ -6,7 +6,7 @@ use native.Mathlib.Nat.{zero-add, suc-add, add-zero}
 use native.Mathlib.Numerals.{add-one}
 use native.Mathlib.Omega.{arith}
 use lib.ListN.{length, take, drop, set, getD, length-replicate, length-take, length-drop}
-use lib.Seq.{getD-drop, take-suc}
+use lib.Seq.{getD-drop, take-suc, take-add, drop-drop}
 use Rattle.spans.specs.Bytes.{part, put, blank}
 
 -- what it says in other words
@@ -132,6 +132,11 @@ part-blank zero zero (suc len) h = absurd (omega arith)
 part-blank (suc n) zero (suc len) h = ap {B = List ℕ} (λ r. 255 ∷ r) (part-blank n zero len (omega arith))
 part-blank zero (suc at) len h = absurd (omega arith)
 part-blank (suc n) (suc at) len h = part-blank n at len (omega arith)
+
+-- a part is cut in two
+pub part-join : (xs : List ℕ) (at a b : ℕ) → part xs at (a + b) ≡ part xs at a ++ part xs (at + a) b
+unfolding part
+part-join xs at a b = rw (take-add, drop-drop)
 
 -- a put that begins where the list does, and is as long, is all there is
 pub put-all : (xs ys : List ℕ) → length xs ≡ length ys → put xs zero ys ≡ ys
