@@ -1,6 +1,10 @@
 pub mod Header
 pub mod Records
 pub mod Check
+pub mod Image
 pub mod HeaderLaws
 pub mod RecordLaws
+pub mod WalkLaws
+pub mod LaidLaws
 pub mod CheckLaws
+pub mod StructureLaws

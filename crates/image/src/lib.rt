@@ -1,10 +1,11 @@
 // The image check: header, trailing records, digest. It writes nothing.
 ghost use mathlib.Core.Path.{_≡_};
-ghost use Prim.Native.Nat.{ℕ, _+_, _<_, _≤_};
+ghost use Prim.Native.Nat.{ℕ, _+_, _^_, _<_, _≤_};
 ghost use lib.ListN.{length};
 ghost use Rattle.image.specs.Header.{field};
-ghost use Rattle.image.specs.Records.{stepAt};
-ghost use Rattle.image.specs.Check.{sizes, head, numberOf, causeOf};
+ghost use Rattle.image.specs.Records.{stepAt, records};
+ghost use Rattle.image.specs.WalkLaws.{walked, onlyDigest};
+ghost use Rattle.image.specs.Check.{numberOf, causeOf, sizes, head, layoutOf, structure, digestAt, check};
 
 // Why an image is rejected; specs/Check.antt gives the numbers.
 pub enum Cause {
@@ -116,5 +117,138 @@ pub fn step_at(area: &[u8], at: usize) -> Step
         kind: area[at],
         start: at + 4,
         size,
+    }
+}
+
+// What the records of an area come to: some bytes make no record, or the records fill it, and digests of them are of type 1, of
+// which the last has its size bytes at place.
+pub enum Walked {
+    Short,
+    Filled {
+        digests: usize,
+        place: usize,
+        size: usize,
+    },
+}
+
+// The first record, and then the rest of the area by the same rule. The area stands at `at` of the image; digests, place and size
+// are what came of the records before it.
+fn walk(area: &[u8], at: usize, digests: usize, place: usize, size: usize) -> Walked
+    requires { ⌜ (digests ≤ at) × (at + length (now area) < 2 ^ 64) ⌝ }
+    ensures { λ r. ⌜ r ≡ walked (records (now (area .entry))) at digests place size ⌝ }
+{
+    match step_at(area, 0) {
+        Step::End => Walked::Filled {
+            digests,
+            place,
+            size,
+        },
+        Step::Stump => Walked::Short,
+        Step::Record {
+            kind,
+            start,
+            size: length,
+        } => {
+            let next = start + length;
+            if kind == 1 {
+                walk(&area[next..], at + next, digests + 1, at + start, length)
+            } else {
+                walk(&area[next..], at + next, digests, place, size)
+            }
+        }
+    }
+}
+
+// Cause 4, once the records fill their area.
+fn one_digest(covered: usize, digests: usize, place: usize, size: usize) -> Layout
+    ensures { λ r. ⌜ r ≡ onlyDigest covered digests place size ⌝ }
+{
+    if digests == 1 {
+        if size == 32 {
+            return Layout::Sound {
+                covered,
+                digest: place,
+            };
+        }
+    }
+    Layout::Wrong(Cause::DigestRecord)
+}
+
+// Causes 3 and 4, of the records area, which stands behind the bytes covered.
+fn layout_of(area: &[u8], covered: usize) -> Layout
+    requires { ⌜ covered + length (now area) < 2 ^ 64 ⌝ }
+    ensures { λ r. ⌜ r ≡ layoutOf covered (records (now (area .entry))) ⌝ }
+{
+    match walk(area, covered, 0, 0, 0) {
+        Walked::Short => Layout::Wrong(Cause::RecordsArea),
+        Walked::Filled {
+            digests,
+            place,
+            size,
+        } => one_digest(covered, digests, place, size),
+    }
+}
+
+// Causes 1 to 4.
+pub fn structure(image: &[u8]) -> Layout
+    ensures { λ r. ⌜ r ≡ structure (now (image .entry)) ⌝ }
+{
+    match head(image) {
+        Header::Bad(cause) => Layout::Wrong(cause),
+        Header::Good {
+            header,
+            body,
+            records,
+        } => {
+            let covered = header + body;
+            let end = covered + records;
+            layout_of(&image[covered..end], covered)
+        }
+    }
+}
+
+// Cause 5: the bytes covered, against the 32 bytes of the digest record.
+fn digest_at(image: &[u8], covered: usize, at: usize) -> Verdict
+    requires { ⌜ covered ≤ length (now image) ⌝ }
+    ensures { λ r. ⌜ r ≡ digestAt (Layout.Sound covered at) (now (image .entry)) ⌝ }
+{
+    let mut digest = [0u8; 32];
+    sha256::digest(&image[..covered], &mut digest);
+    if spans::stands(image, at, &digest[..32]) {
+        Verdict::Accepted
+    } else {
+        Verdict::Rejected(Cause::DigestDiffers)
+    }
+}
+
+// The image check.
+pub fn check(image: &[u8]) -> Verdict
+    ensures { λ r. ⌜ r ≡ check (now (image .entry)) ⌝ }
+{
+    match structure(image) {
+        Layout::Wrong(cause) => Verdict::Rejected(cause),
+        Layout::Sound { covered, digest } => digest_at(image, covered, digest),
+    }
+}
+
+pub fn number(cause: Cause) -> u32
+    ensures { λ r. ⌜ r ≡ numberOf cause ⌝ }
+{
+    match cause {
+        Cause::HeaderMagic => 1,
+        Cause::HeaderSizes => 2,
+        Cause::RecordsArea => 3,
+        Cause::DigestRecord => 4,
+        Cause::DigestDiffers => 5,
+    }
+}
+
+// The image check by its number: 0 for accepted.
+pub fn cause_number(image: &[u8]) -> u32
+    ensures { λ r. ⌜ r ≡ causeOf (check (now (image .entry))) ⌝ }
+{
+    match check(image) {
+        Verdict::Accepted => 0,
+        Verdict::Rejected(cause) => number(cause),
     }
 }

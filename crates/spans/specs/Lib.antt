@@ -6,3 +6,4 @@ pub mod Folds
 pub mod Runs
 pub mod Words
 pub mod WordLaws
+pub mod Same
