@@ -5,9 +5,10 @@ use Prim.Native.Nat.{ℕ, _+_, _<_, _≤_}
 use native.Mathlib.Omega.{arith}
 use borrow.Author.Tests.{ne-eqb}
 use lib.ListN.{length, drop, getD}
+use mathlib.Core.Bool.{Bool, true, false}
 use lib.Dec.{eqb}
 use Rattle.spans.specs.Choice.{pick}
-use Rattle.image.specs.Records.{Split, Place, stepAt, after, firstThen, recordOf, records, digests}
+use Rattle.image.specs.Records.{Trailing, Split, Place, stepAt, after, firstThen, recordOf, records, digests}
 use Rattle.image.specs.RecordLaws.{Whole, whole-of, stump-of, records-step, record-sized, digests-one, digests-other}
 use Rattle.image.specs.Check.{oneDigest, filled, layoutOf}
 use Rattle.image.specs.declared.Step.{Step}
@@ -15,8 +16,11 @@ use Rattle.image.specs.declared.Step.the-variants.{End, Stump, Record}
 use Rattle.image.specs.declared.Cause.the-variants.{RecordsArea, DigestRecord}
 use Rattle.image.specs.declared.Layout.{Layout}
 use Rattle.image.specs.declared.Layout.the-variants.{Wrong, Sound}
-use Rattle.image.specs.declared.Walked.{Walked}
-use Rattle.image.specs.declared.Walked.the-variants.{Short, Filled}
+
+-- some bytes make no record; or the records fill the area, and of so many of type 1 the last has so many bytes at a place
+pub data Walked : Type 0 where
+  Short : Walked
+  Filled : ℕ → ℕ → ℕ → Walked
 
 unfoldable pub counted : List Place → ℕ → ℕ → ℕ → Walked
 counted [] n place size = Filled n place size
@@ -29,8 +33,10 @@ unlessOver (x ∷ xs) w = Short
 unfoldable pub walked : Split → ℕ → ℕ → ℕ → ℕ → Walked
 walked s at n place size = unlessOver (s .over) (counted (digests at (s .found)) n place size)
 
-unfoldable pub onlyDigest : ℕ → ℕ → ℕ → ℕ → Layout
-onlyDigest covered n place size = pick (eqb n 1) (pick (eqb size 32) (Sound covered place) (Wrong DigestRecord)) (Wrong DigestRecord)
+-- the walk's answer: where the one digest of 32 bytes stands, or the number of the cause
+unfoldable pub placeOrCause : Walked → ℕ
+placeOrCause Short = 3
+placeOrCause (Filled n place size) = pick (eqb n 1) (pick (eqb size 32) place 4) 4
 
 -- ---- what the code's steps come to
 
@@ -68,31 +74,47 @@ module _ (xs : List ℕ) (at n place size : ℕ) where
 
 -- ---- what the whole walk comes to
 
-fromWalked : ℕ → Walked → Layout
-fromWalked covered Short = Wrong RecordsArea
-fromWalked covered (Filled n place size) = onlyDigest covered n place size
+unfoldable pub ofNumber : ℕ → ℕ → Layout
+ofNumber covered n = pick (eqb n 3) (Wrong RecordsArea) (pick (eqb n 4) (Wrong DigestRecord) (Sound covered n))
 
-several : (covered : ℕ) (ds : List Place) (n place size : ℕ) → 2 ≤ n → fromWalked covered (counted ds n place size) ≡ Wrong DigestRecord
-unfolding fromWalked counted onlyDigest
+several : (covered : ℕ) (ds : List Place) (n place size : ℕ) → 2 ≤ n → ofNumber covered (placeOrCause (counted ds n place size)) ≡ Wrong DigestRecord
+unfolding counted placeOrCause ofNumber
 several covered [] n place size h = let d : n ≡ 1 → ⊥ = λ e. omega arith in rw (ne-eqb n 1 d)
 several covered (d ∷ ds) n place size h = several covered ds (n + 1) (d .at) (d .size) (omega arith)
 
-one : (covered : ℕ) (ds : List Place) → fromWalked covered (counted ds 0 0 0) ≡ oneDigest covered ds
-unfolding fromWalked counted onlyDigest oneDigest
-one covered [] = refl
-one covered (d ∷ []) = refl
-one covered (d ∷ e ∷ ds) = several covered ds 2 (e .at) (e .size) (omega arith)
+-- no digest stands at the very start
+data Beyond : List Place → Type 0 where
+  none : Beyond []
+  more : {p : Place} {ps : List Place} → 4 < p .at → Beyond ps → Beyond (p ∷ ps)
 
-overs : (covered : ℕ) (ds : List Place) (xs : List ℕ) → fromWalked covered (unlessOver xs (counted ds 0 0 0)) ≡ filled covered ds xs
-unfolding fromWalked unlessOver filled
-overs covered ds [] = one covered ds
-overs covered ds (x ∷ xs) = refl
+beyond : (at : ℕ) (rs : List Trailing) → 0 < at → Beyond (digests at rs)
+unfolding digests
+beyond at [] h = Beyond.none
+beyond at (r ∷ rs) h = by (eqb (r .kind) 1) (beyond (at + (4 + length (r .bytes))) rs (omega arith))
+  where
+    by : (t : Bool) → Beyond (digests (at + (4 + length (r .bytes))) rs)
+        → Beyond (pick t (record { at = at + 4; size = length (r .bytes) } ∷ digests (at + (4 + length (r .bytes))) rs) (digests (at + (4 + length (r .bytes))) rs))
+    by true b = let far : 4 < at + 4 = omega arith in Beyond.more far b
+    by false b = b
 
-module _ (covered : ℕ) (s : Split) where
-  pub layout-short : walked s covered 0 0 0 ≡ Short → layoutOf covered s ≡ Wrong RecordsArea
-  unfolding fromWalked layoutOf walked
-  layout-short e = sym (overs covered (digests covered (s .found)) (s .over)) ∙ ap (fromWalked covered) e
+one : (covered : ℕ) (ds : List Place) → Beyond ds → ofNumber covered (placeOrCause (counted ds 0 0 0)) ≡ oneDigest covered ds
+unfolding counted placeOrCause ofNumber oneDigest
+one covered [] b = refl
+one covered (d ∷ []) (Beyond.more h b) = by (eqb (d .size) 32)
+  where
+    by : (t : Bool) → ofNumber covered (pick t (d .at) 4) ≡ pick t (Sound covered (d .at)) (Wrong DigestRecord)
+    by true =
+        let three : d .at ≡ 3 → ⊥ = λ e. omega arith in
+        let four : d .at ≡ 4 → ⊥ = λ e. omega arith in
+        rw (ne-eqb (d .at) 3 three, ne-eqb (d .at) 4 four)
+    by false = refl
+one covered (d ∷ e ∷ ds) b = several covered ds 2 (e .at) (e .size) (omega arith)
 
-  pub layout-filled : (n place size : ℕ) → walked s covered 0 0 0 ≡ Filled n place size → layoutOf covered s ≡ onlyDigest covered n place size
-  unfolding fromWalked layoutOf walked
-  layout-filled n place size e = sym (overs covered (digests covered (s .found)) (s .over)) ∙ ap (fromWalked covered) e
+overs : (covered : ℕ) (ds : List Place) (xs : List ℕ) → Beyond ds → ofNumber covered (placeOrCause (unlessOver xs (counted ds 0 0 0))) ≡ filled covered ds xs
+unfolding placeOrCause ofNumber unlessOver filled
+overs covered ds [] b = one covered ds b
+overs covered ds (x ∷ xs) b = refl
+
+pub layout-walked : (covered : ℕ) (s : Split) → 0 < covered → ofNumber covered (placeOrCause (walked s covered 0 0 0)) ≡ layoutOf covered s
+unfolding layoutOf walked
+layout-walked covered s h = overs covered (digests covered (s .found)) (s .over) (beyond covered (s .found) h)

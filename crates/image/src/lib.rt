@@ -1,10 +1,10 @@
 // The image check: header, trailing records, digest. It writes nothing.
 ghost use mathlib.Core.Path.{_≡_};
 ghost use Prim.Native.Nat.{ℕ, _+_, _^_, _<_, _≤_};
-ghost use lib.ListN.{length};
+ghost use lib.ListN.{length, drop};
 ghost use Rattle.image.specs.Header.{field};
 ghost use Rattle.image.specs.Records.{stepAt, records};
-ghost use Rattle.image.specs.WalkLaws.{walked, onlyDigest};
+ghost use Rattle.image.specs.WalkLaws.{Walked, walked, placeOrCause};
 ghost use Rattle.image.specs.Check.{numberOf, causeOf, sizes, head, layoutOf, structure, digestAt, check};
 
 // Why an image is rejected; specs/Check.antt gives the numbers.
@@ -120,30 +120,29 @@ pub fn step_at(area: &[u8], at: usize) -> Step
     }
 }
 
-// What the records of an area come to: some bytes make no record, or the records fill it, and digests of them are of type 1, of
-// which the last has its size bytes at place.
-pub enum Walked {
-    Short,
-    Filled {
-        digests: usize,
-        place: usize,
-        size: usize,
-    },
+// Cause 4, where the records fill their area: the place of the one digest of 32 bytes, or 4.
+fn only_digest(digests: usize, place: usize, size: usize) -> usize
+    ensures { λ r. ⌜ r ≡ placeOrCause (Walked.Filled digests place size) ⌝ }
+{
+    if digests == 1 {
+        if size == 32 {
+            return place;
+        }
+    }
+    4
 }
 
-// The first record, and then the rest of the area by the same rule. The area stands at `at` of the image; digests, place and size
-// are what came of the records before it.
-fn walk(area: &[u8], at: usize, digests: usize, place: usize, size: usize) -> Walked
-    requires { ⌜ (digests ≤ at) × (at + length (now area) < 2 ^ 64) ⌝ }
-    ensures { λ r. ⌜ r ≡ walked (records (now (area .entry))) at digests place size ⌝ }
+// Causes 3 and 4: the first record of the rest of the area, and then the rest of that by the same rule. Of the records before it, digests
+// were of type 1, and the last of those has its size bytes at place. The answer is one number, the digest's place or the cause, and the
+// slice is handed on as it is: so the compiler needs no stack for a record.
+fn walk(area: &[u8], at: usize, digests: usize, place: usize, size: usize) -> usize
+    requires { ⌜ (at ≤ length (now area)) × (digests ≤ at) ⌝ }
+    ensures { λ r. ⌜ r ≡ placeOrCause (walked (records (drop at (now (area .entry)))) at digests place size) ⌝ }
 {
-    match step_at(area, 0) {
-        Step::End => Walked::Filled {
-            digests,
-            place,
-            size,
-        },
-        Step::Stump => Walked::Short,
+    let rest = &area[at..];
+    match step_at(rest, 0) {
+        Step::End => only_digest(digests, place, size),
+        Step::Stump => 3,
         Step::Record {
             kind,
             start,
@@ -151,41 +150,23 @@ fn walk(area: &[u8], at: usize, digests: usize, place: usize, size: usize) -> Wa
         } => {
             let next = start + length;
             if kind == 1 {
-                walk(&area[next..], at + next, digests + 1, at + start, length)
+                walk(area, at + next, digests + 1, at + start, length)
             } else {
-                walk(&area[next..], at + next, digests, place, size)
+                walk(area, at + next, digests, place, size)
             }
         }
     }
 }
 
-// Cause 4, once the records fill their area.
-fn one_digest(covered: usize, digests: usize, place: usize, size: usize) -> Layout
-    ensures { λ r. ⌜ r ≡ onlyDigest covered digests place size ⌝ }
-{
-    if digests == 1 {
-        if size == 32 {
-            return Layout::Sound {
-                covered,
-                digest: place,
-            };
-        }
-    }
-    Layout::Wrong(Cause::DigestRecord)
-}
-
-// Causes 3 and 4, of the records area, which stands behind the bytes covered.
+// Causes 3 and 4, of bytes that end with the records area, which stands behind the bytes covered. No digest has its place below 36.
 fn layout_of(area: &[u8], covered: usize) -> Layout
-    requires { ⌜ covered + length (now area) < 2 ^ 64 ⌝ }
-    ensures { λ r. ⌜ r ≡ layoutOf covered (records (now (area .entry))) ⌝ }
+    requires { ⌜ (32 ≤ covered) × (covered ≤ length (now area)) ⌝ }
+    ensures { λ r. ⌜ r ≡ layoutOf covered (records (drop covered (now (area .entry)))) ⌝ }
 {
     match walk(area, covered, 0, 0, 0) {
-        Walked::Short => Layout::Wrong(Cause::RecordsArea),
-        Walked::Filled {
-            digests,
-            place,
-            size,
-        } => one_digest(covered, digests, place, size),
+        3 => Layout::Wrong(Cause::RecordsArea),
+        4 => Layout::Wrong(Cause::DigestRecord),
+        digest => Layout::Sound { covered, digest },
     }
 }
 
@@ -202,7 +183,7 @@ pub fn structure(image: &[u8]) -> Layout
         } => {
             let covered = header + body;
             let end = covered + records;
-            layout_of(&image[covered..end], covered)
+            layout_of(&image[..end], covered)
         }
     }
 }

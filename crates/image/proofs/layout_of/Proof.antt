@@ -1,40 +1,38 @@
+use native.Mathlib.Omega.{arith}
+use lib.ListN.{drop}
+use Rattle.image.specs.Check.{layoutOf}
 use mathlib.Core.Path.{_≡_, sym, ap, _∙_}
+use borrow.Author.Tests.{eq-eqb, ne-eqb}
 use Rattle.image.specs.Records.{records}
-use Rattle.image.specs.WalkLaws.{layout-short, layout-filled}
+use Rattle.image.specs.WalkLaws.{ofNumber, layout-walked}
 use borrow.Author.Needs.{needs}
 use Rattle.image.proofs.layout_of.Statement.{statement}
 use Rattle.image.proofs.layout_of.Tie as tie
 use Rattle.image.proofs.layout_of.Reads as reads
 use Rattle.image.proofs.layout_of.Lts as lts
-use Rattle.image.proofs.one_digest.Reads as one-digest-reads
 use Rattle.image.proofs.walk.Reads as walk-reads
 
 walk-requires : tie.Need-walk-requires
 walk-requires c κs = search needs
 
-enum-told : tie.Need-enum-told
-enum-told c = search needs
-
-enum-known-digests : tie.Need-enum-known-digests
-enum-known-digests c = search needs
-
-one-digest-requires : tie.Need-one-digest-requires
-one-digest-requires c κs = search needs
+-- the walk's number says what the records come to
+told : (c : tie.After-walk) → layoutOf (c .before .before .args .covered) (records (drop (c .before .before .args .covered) (c .before .before .args .area .now)))
+    ≡ ofNumber (c .before .before .args .covered) (c .walk .result)
+told c =
+    let a = c .before .before .args in
+    sym (layout-walked (a .covered) (records (drop (a .covered) (a .area .now))) (omega arith)) ∙ ap (ofNumber (a .covered)) (sym (c .walk .ensures))
 
 returns : tie.Need-returns
-returns c =
-    let a = c .before .before .before .before .args in
-    let e = sym (c .before .before .walk .ensures) ∙ c .enum-told .given .1 in
-    sym (layout-short (a .covered) (records (a .area .now)) e)
+unfolding ofNumber
+returns c = sym (told (c .before) ∙ rw (eq-eqb _ 3 (c .match .keys1)))
 
 returns-2 : tie.Need-returns-2
-returns-2 c =
-    let a = c .before .before .before .before .before .before .args in
-    let g = c .before .before .digests .given in
-    let e = sym (c .before .before .before .before .walk .ensures) ∙ g .1 in
-    c .one-digest .ensures ∙ sym (layout-filled (a .covered) (records (a .area .now)) (g .0 .0) (g .0 .1 .0) (g .0 .1 .1 .0) e)
+unfolding ofNumber
+returns-2 c = sym (told (c .before) ∙ ap (ofNumber (c .before .before .before .args .covered)) (c .match .keys2))
+
+returns-3 : tie.Need-returns-3
+unfolding ofNumber
+returns-3 c = sym (told (c .before) ∙ rw (ne-eqb _ 3 (c .match .rest .0 .1), ne-eqb _ 4 (c .match .rest .1)))
 
 pub layout-of-spec : {M : Type 1} → statement M
-layout-of-spec =
-    tie.close
-    (tie.spec walk-requires enum-told enum-known-digests one-digest-requires returns returns-2)
+layout-of-spec = tie.close (tie.spec walk-requires returns returns-2 returns-3)
