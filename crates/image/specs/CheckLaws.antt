@@ -1,12 +1,11 @@
 -- When the header is good, and what the bytes come to then.
 use mathlib.Core.Path.{_≡_, refl, sym, ap, _∙_}
 use mathlib.Core.List.{List, [], _∷_}
-use Prim.Native.Nat.{ℕ, zero, suc, _+_, _≤_, _<_}
+use Prim.Native.Nat.{ℕ, _+_, _-_, _≤_, _<_}
 use native.Mathlib.Omega.{arith}
 use borrow.Author.Tests.{lt-ltb, le-ltb, eq-eqb, ne-eqb}
 use lib.ListN.{length, take, drop}
-use lib.Seq.{take-nil}
-use native.Mathlib.Nat.{zero-add, suc-add}
+use native.Mathlib.Nat.{add-sub-cancel-left}
 use mathlib.Core.Bool.{Bool, true, false}
 use Rattle.spans.specs.Bytes.{part, same}
 use Rattle.sha256.specs.Fips.{sha256}
@@ -51,9 +50,7 @@ module _ (xs : List ℕ) (covered at : ℕ) where
   unfolding digestAt
   digest-other e = rw e
 
--- bytes up to a place, from another on
-pub drop-of-take : (xs : List ℕ) (at size : ℕ) → drop at (take (at + size) xs) ≡ part xs at size
+-- a part as a slice from a place to a place has it
+pub part-is : (xs : List ℕ) (at size : ℕ) → take (at + size - at) (drop at xs) ≡ part xs at size
 unfolding part
-drop-of-take xs zero size = rw zero-add
-drop-of-take [] (suc at) size = rw (suc-add, take-nil)
-drop-of-take (x ∷ xs) (suc at) size = rw suc-add (drop-of-take xs at size)
+part-is xs at size = rw add-sub-cancel-left

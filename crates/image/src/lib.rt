@@ -1,7 +1,7 @@
 // The image check: header, trailing records, digest. It writes nothing.
 ghost use mathlib.Core.Path.{_≡_};
 ghost use Prim.Native.Nat.{ℕ, _+_, _^_, _<_, _≤_};
-ghost use lib.ListN.{length, drop};
+ghost use lib.ListN.{length};
 ghost use Rattle.image.specs.Header.{field};
 ghost use Rattle.image.specs.Records.{stepAt, records};
 ghost use Rattle.image.specs.WalkLaws.{Walked, walked, placeOrCause};
@@ -132,15 +132,21 @@ fn only_digest(digests: usize, place: usize, size: usize) -> usize
     4
 }
 
-// Causes 3 and 4: the first record of the rest of the area, and then the rest of that by the same rule. Of the records before it, digests
-// were of type 1, and the last of those has its size bytes at place. The answer is one number, the digest's place or the cause, and the
-// slice is handed on as it is: so the compiler needs no stack for a record.
-fn walk(area: &[u8], at: usize, digests: usize, place: usize, size: usize) -> usize
-    requires { ⌜ (at ≤ length (now area)) × (digests ≤ at) ⌝ }
-    ensures { λ r. ⌜ r ≡ placeOrCause (walked (records (drop at (now (area .entry)))) at digests place size) ⌝ }
+// Causes 3 and 4: the first record, and then the rest of the area by the same rule. The area stands at `at` of the image; of the records
+// before it, digests were of type 1, and the last of those has its size bytes at place. The answer is one number, the digest's place or
+// the cause, and the rest of the area is lent on in the caller's place: so the compiler needs no stack for a record.
+fn walk<'r, 'a>(
+    area: &'r mut &'a [u8],
+    at: usize,
+    digests: usize,
+    place: usize,
+    size: usize,
+) -> usize
+    requires { ⌜ (digests ≤ at) × (at + length (now (now area)) < 2 ^ 64) ⌝ }
+    ensures { λ r. ⌜ r ≡ placeOrCause (walked (records (now (now (area .entry)))) at digests place size) ⌝ }
 {
-    let rest = &area[at..];
-    match step_at(rest, 0) {
+    let all = *area;
+    match step_at(all, 0) {
         Step::End => only_digest(digests, place, size),
         Step::Stump => 3,
         Step::Record {
@@ -149,6 +155,7 @@ fn walk(area: &[u8], at: usize, digests: usize, place: usize, size: usize) -> us
             size: length,
         } => {
             let next = start + length;
+            *area = &all[next..];
             if kind == 1 {
                 walk(area, at + next, digests + 1, at + start, length)
             } else {
@@ -158,12 +165,13 @@ fn walk(area: &[u8], at: usize, digests: usize, place: usize, size: usize) -> us
     }
 }
 
-// Causes 3 and 4, of bytes that end with the records area, which stands behind the bytes covered. No digest has its place below 36.
+// Causes 3 and 4, of the records area, which stands behind the bytes covered: no digest has its place below 36.
 fn layout_of(area: &[u8], covered: usize) -> Layout
-    requires { ⌜ (32 ≤ covered) × (covered ≤ length (now area)) ⌝ }
-    ensures { λ r. ⌜ r ≡ layoutOf covered (records (drop covered (now (area .entry)))) ⌝ }
+    requires { ⌜ (32 ≤ covered) × (covered + length (now area) < 2 ^ 64) ⌝ }
+    ensures { λ r. ⌜ r ≡ layoutOf covered (records (now (area .entry))) ⌝ }
 {
-    match walk(area, covered, 0, 0, 0) {
+    let mut rest = area;
+    match walk(&mut rest, covered, 0, 0, 0) {
         3 => Layout::Wrong(Cause::RecordsArea),
         4 => Layout::Wrong(Cause::DigestRecord),
         digest => Layout::Sound { covered, digest },
@@ -183,7 +191,7 @@ pub fn structure(image: &[u8]) -> Layout
         } => {
             let covered = header + body;
             let end = covered + records;
-            layout_of(&image[..end], covered)
+            layout_of(&image[covered..end], covered)
         }
     }
 }

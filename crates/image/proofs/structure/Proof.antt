@@ -1,10 +1,11 @@
 use mathlib.Core.Path.{_≡_, sym, ap, _∙_}
 use native.Mathlib.Omega.{arith}
-use Prim.Native.Nat.{ℕ, _+_, _≤_}
+use Prim.Native.Nat.{ℕ, _+_}
 use lib.ListN.{length}
-use lib.Seq.{length-take-le}
+use Rattle.spans.specs.Bytes.{part}
+use Rattle.spans.specs.Laws.{length-part}
 use Rattle.image.specs.Header.{coveredSize, imageSize}
-use Rattle.image.specs.CheckLaws.{drop-of-take}
+use Rattle.image.specs.CheckLaws.{part-is}
 use Rattle.image.specs.StructureLaws.{Sizes, sizes-of, structure-bad, structure-good}
 use borrow.Author.Needs.{needs}
 use Rattle.image.proofs.structure.Statement.{statement}
@@ -14,15 +15,10 @@ use Rattle.image.proofs.structure.Lts as lts
 use Rattle.image.proofs.head.Reads as head-reads
 use Rattle.image.proofs.layout_of.Reads as layout-of-reads
 
--- the header was good, and these are its sizes, which fit together
+-- the header was good, and these are its sizes
 sized : (c : tie.After-known-told2)
     → Sizes (c .before .before .before .before .before .args .image .now) (c .before .header .given .0 .0) (c .before .header .given .0 .1 .0) (c .before .header .given .0 .1 .1 .0)
 sized c = sizes-of _ _ _ _ (sym (c .before .before .before .head .ensures) ∙ c .before .header .given .1)
-
-fits : (c : tie.After-known-told2) → c .before .header .given .0 .0 + c .before .header .given .0 .1 .0 + c .before .header .given .0 .1 .1 .0
-    ≤ length (c .before .before .before .before .before .args .image .now)
-unfolding imageSize coveredSize
-fits c = let s = sized c in let f = s .good .fits in omega arith
 
 head-requires : tie.Need-head-requires
 head-requires c κs = search needs
@@ -41,10 +37,15 @@ add-end : tie.Need-add-end
 unfolding imageSize coveredSize
 add-end c = let s = sized c in let f = s .good .fits in omega arith
 
-slice-aggregate-layout-of : tie.Need-slice-aggregate-layout-of
-slice-aggregate-layout-of c =
-    let a = c .before .before .before .before .before .before .args in
-    sym (length-take-le _ (a .image .now) (fits (c .before)))
+sub-layout-of : tie.Need-sub-layout-of
+sub-layout-of c = search needs
+
+part-layout-of-start : tie.Need-part-layout-of-start
+part-layout-of-start c = search needs
+
+part-layout-of-end : tie.Need-part-layout-of-end
+unfolding imageSize coveredSize
+part-layout-of-end c = let s = sized c in let f = s .good .fits in omega arith
 
 layout-of-requires : tie.Need-layout-of-requires
 unfolding imageSize coveredSize
@@ -53,7 +54,8 @@ layout-of-requires c κs =
     let f = s .good in
     let a = c .before .before .before .before .before .before .args in
     let g = c .before .before .header .given .0 in
-    omega (arith, length-take-le (g .0 + g .1 .0 + g .1 .1 .0) (a .image .now) (fits (c .before)))
+    let l : length (part (a .image .now) (g .0 + g .1 .0) (g .1 .1 .0)) ≡ g .1 .1 .0 = length-part (a .image .now) (g .0 + g .1 .0) (g .1 .1 .0) (omega arith) in
+    rw (part-is (a .image .now) (g .0 + g .1 .0) (g .1 .1 .0)) (omega arith)
 
 returns : tie.Need-returns
 returns c =
@@ -65,7 +67,7 @@ returns-2 c =
     let a = c .before .before .before .before .before .before .before .args in
     let g = c .before .before .before .header .given in
     let e = sym (c .before .before .before .before .before .head .ensures) ∙ g .1 in
-    let p = drop-of-take (a .image .now) (g .0 .0 + g .0 .1 .0) (g .0 .1 .1 .0) in
+    let p = part-is (a .image .now) (g .0 .0 + g .0 .1 .0) (g .0 .1 .1 .0) in
     cc (c .layout-of .ensures, structure-good (a .image .now) (g .0 .0) (g .0 .1 .0) (g .0 .1 .1 .0) e, p)
 
 pub structure-spec : {M : Type 1} → statement M
@@ -77,7 +79,9 @@ structure-spec =
     enum-known-header
     add-covered
     add-end
-    slice-aggregate-layout-of
+    sub-layout-of
+    part-layout-of-start
+    part-layout-of-end
     layout-of-requires
     returns
     returns-2)
