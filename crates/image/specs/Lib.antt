@@ -8,3 +8,4 @@ pub mod WalkLaws
 pub mod LaidLaws
 pub mod CheckLaws
 pub mod StructureLaws
+pub mod Theorem
