@@ -2,6 +2,7 @@ pub mod Header
 pub mod Records
 pub mod Check
 pub mod Image
+pub mod Edges
 pub mod HeaderLaws
 pub mod RecordLaws
 pub mod WalkLaws
