@@ -10,3 +10,4 @@ pub mod LaidLaws
 pub mod CheckLaws
 pub mod StructureLaws
 pub mod Theorem
+pub mod Reading
