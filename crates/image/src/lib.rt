@@ -204,7 +204,7 @@ fn digest_at(image: &[u8], covered: usize, at: usize) -> Verdict
     ensures { λ r. ⌜ r ≡ digestAt (Layout.Sound covered at) (now (image .entry)) ⌝ }
 {
     let mut digest = [0u8; 32];
-    sha256::digest(&image[..covered], &mut digest);
+    sha256::digest(&image[0..covered], &mut digest);
     if spans::stands(image, at, &digest[..32]) {
         Verdict::Accepted
     } else {
