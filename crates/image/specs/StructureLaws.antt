@@ -165,11 +165,12 @@ module _ (xs : List ℕ) (g : GoodHeader xs) where
 
 -- what the digest covers and where it stands lie in the bytes
 pub record Within (xs : List ℕ) (covered at : ℕ) : Type 0 where
+  pub least : 32 ≤ covered
   pub covers : covered ≤ length xs
   pub stands : at + 32 ≤ length xs
 
 pub sound-within : (xs : List ℕ) (covered at : ℕ) → structure xs ≡ Sound covered at → Within xs covered at
-unfolding imageSize
+unfolding imageSize coveredSize
 sound-within xs covered at e = by (head xs) refl (heads xs)
   where
     opened : (l : Layout) → l ≡ Sound covered at → GoodHeader xs → Comes xs (recordsArea xs) (coveredSize xs) l → Within xs covered at
@@ -178,7 +179,7 @@ sound-within xs covered at e = by (head xs) refl (heads xs)
     opened l k g (Comes.sound {at = there} rs f d o s) =
         let a : coveredSize xs ≡ covered = cc in
         let b : there ≡ at = cc in
-        record { covers = omega (arith, g .fits); stands = omega (arith, s .within) }
+        record { least = omega (arith, g .header); covers = omega (arith, g .fits); stands = omega (arith, s .within) }
 
     by : (h : Header) → head xs ≡ h → Heads xs h → Within xs covered at
     by (Bad c) k w = let b = structure-bad xs c k in let z : _≡_ {A = ℕ} 0 1 = cc in absurd (omega arith)

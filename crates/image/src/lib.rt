@@ -200,7 +200,7 @@ pub fn structure(image: &[u8]) -> Layout
 
 // Cause 5: the bytes covered, against the 32 bytes of the digest record.
 fn digest_at(image: &[u8], covered: usize, at: usize) -> Verdict
-    requires { ⌜ covered ≤ length (now image) ⌝ }
+    requires { ⌜ (32 ≤ covered) × (covered ≤ length (now image)) ⌝ }
     ensures { λ r. ⌜ r ≡ digestAt (Layout.Sound covered at) (now (image .entry)) ⌝ }
 {
     let mut digest = [0u8; 32];
