@@ -8,3 +8,4 @@ pub mod Words
 pub mod WordLaws
 pub mod Table
 pub mod BitLaws
+pub mod Same

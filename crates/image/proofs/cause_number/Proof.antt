@@ -1,0 +1,34 @@
+use mathlib.Core.Path.{_≡_, sym, ap, _∙_}
+use Rattle.image.specs.Check.{causeOf}
+use borrow.Author.Needs.{needs}
+use Rattle.image.proofs.cause_number.Statement.{statement}
+use Rattle.image.proofs.cause_number.Tie as tie
+use Rattle.image.proofs.cause_number.Reads as reads
+use Rattle.image.proofs.cause_number.Lts as lts
+use Rattle.image.proofs.check.Reads as check-reads
+use Rattle.image.proofs.number.Reads as number-reads
+
+check-requires : tie.Need-check-requires
+check-requires c κs = search needs
+
+enum-told : tie.Need-enum-told
+enum-told c = search needs
+
+enum-known-cause : tie.Need-enum-known-cause
+enum-known-cause c = search needs
+
+number-requires : tie.Need-number-requires
+number-requires c κs = search needs
+
+returns : tie.Need-returns
+unfolding causeOf
+returns c = ap causeOf (sym (c .enum-told .given .1) ∙ c .before .before .check .ensures)
+
+returns-2 : tie.Need-returns-2
+unfolding causeOf
+returns-2 c = c .number .ensures ∙ ap causeOf (sym (c .before .before .cause .given .1) ∙ c .before .before .before .before .check .ensures)
+
+pub cause-number-spec : {M : Type 1} → statement M
+cause-number-spec =
+    tie.close
+    (tie.spec check-requires enum-told enum-known-cause number-requires returns returns-2)

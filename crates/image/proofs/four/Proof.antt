@@ -1,0 +1,31 @@
+use native.Mathlib.Omega.{arith}
+use Rattle.image.specs.HeaderLaws.{field-four}
+use borrow.Author.Needs.{needs}
+use Rattle.image.proofs.four.Statement.{statement}
+use Rattle.image.proofs.four.Tie as tie
+use Rattle.image.proofs.four.Reads as reads
+use Rattle.image.proofs.four.Lts as lts
+use Rattle.image.proofs.two.Reads as two-reads
+
+two-requires : tie.Need-two-requires
+two-requires c κs = search needs
+
+add-two : tie.Need-add-two
+add-two c = search needs
+
+two-requires-2 : tie.Need-two-requires-2
+two-requires-2 c κs = search needs
+
+mul-result : tie.Need-mul-result
+mul-result c = search needs
+
+add-result : tie.Need-add-result
+add-result c = search needs
+
+returns : tie.Need-returns
+returns c = let a = c .before .before .before .args in
+    let e = field-four (a .s .now) (a .at) (omega arith) in
+    (cc, omega arith)
+
+pub four-spec : {M : Type 1} → statement M
+four-spec = tie.close (tie.spec two-requires add-two two-requires-2 mul-result add-result returns)
