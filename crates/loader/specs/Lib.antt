@@ -1,0 +1,4 @@
+pub mod Numbers
+pub mod PowerUp
+pub mod Marking
+pub mod Results

@@ -1,0 +1,134 @@
+// The parts of a power-up, for a geometry and areas that are taken.
+ghost use mathlib.Core.Path.{_≡_};
+ghost use mathlib.Core.Bool.{true};
+ghost use Prim.Native.Nat.{_*_, _-_, _≤_};
+ghost use lib.ListN.{take};
+ghost use Rattle.flash.specs.Base.{build};
+ghost use Rattle.flash.specs.Small.{Small};
+ghost use Rattle.image.specs.Check.{accepted};
+ghost use Rattle.plan.specs.Asked.{flashOf};
+ghost use Rattle.plan.specs.Bounds.{inBounds};
+ghost use Rattle.plan.specs.Decision.{decide};
+ghost use Rattle.loader.specs.PowerUp.{dataOf, bootOf, ended, carried, answered, refused, onCourse};
+ghost use Rattle.loader.specs.Results.{result};
+use crate::Answer;
+use crate::Outcome;
+use crate::Refusal;
+use flash::End;
+use flash::Geometry;
+use flash::Run;
+use image::Header;
+use image::Verdict;
+use plan::Course;
+use plan::Done;
+
+pub fn refuse(refusal: Refusal) -> Answer
+    ensures { λ r. ⌜ (r .done ≡ Done.None) × ((r .found ≡ 0) × ((r .count ≡ 0) × (r .outcome ≡ Outcome.Refused refusal))) ⌝ }
+{
+    Answer {
+        done: Done::None,
+        found: 0,
+        count: 0,
+        outcome: Outcome::Refused(refusal),
+    }
+}
+
+// The data bytes of a slot.
+fn data_of(g: Geometry, slot: &[u8]) -> &[u8]
+    requires { ⌜ Small g ⌝ }
+    ensures { λ r. ⌜ now r ≡ dataOf g (now (slot .entry)) ⌝ }
+{
+    let end = spans::least((g.sectors - 1) * g.sector, slot.len());
+    &slot[..end]
+}
+
+fn slot_accepted(g: Geometry, slot: &[u8]) -> bool
+    requires { ⌜ Small g ⌝ }
+    ensures { λ r. ⌜ r ≡ accepted (dataOf g (now (slot .entry))) ⌝ }
+{
+    match image::check(data_of(g, slot)) {
+        Verdict::Accepted => true,
+        Verdict::Rejected(_) => false,
+    }
+}
+
+// A, B and C, and the image check where C asks for it.
+fn decided(g: Geometry, slot0: &[u8], slot1: &[u8], scratch: &[u8]) -> Course
+    requires { ⌜ Small g ⌝ }
+    ensures { λ r. ⌜ (r ≡ decide accepted (build g) (flashOf (now (slot0 .entry)) (now (slot1 .entry)) (now (scratch .entry)))) × (inBounds (build g) r ≡ true) ⌝ }
+{
+    let asked = plan::decision::asks(g, slot0, slot1, scratch);
+    if plan::wants_check(asked) {
+        plan::judge(slot_accepted(g, slot1), asked)
+    } else {
+        asked
+    }
+}
+
+// The check of slot 0, if it is chosen.
+fn checked_boot(data: &[u8], offset: usize) -> Outcome
+    ensures { λ r. ⌜ r ≡ judgedStart offset (check (now (data .entry))) ⌝ }
+{
+    match image::check(data) {
+        Verdict::Accepted => Outcome::Boot(offset),
+        Verdict::Rejected(cause) => Outcome::Refused(Refusal::Image(cause)),
+    }
+}
+
+// D for the data bytes of slot 0.
+fn boot_data(data: &[u8], checked: bool) -> Outcome
+    ensures { λ r. ⌜ r ≡ started checked (head (now (data .entry))) (check (now (data .entry))) ⌝ }
+{
+    match image::head(data) {
+        Header::Bad(_) => Outcome::Refused(Refusal::Header),
+        Header::Good { header, body: _, records: _ } => {
+            if checked {
+                checked_boot(data, header)
+            } else {
+                Outcome::Boot(header)
+            }
+        }
+    }
+}
+
+fn outcome(g: Geometry, slot0: &[u8], end: End, checked: bool) -> Outcome
+    requires { ⌜ Small g ⌝ }
+    ensures { λ r. ⌜ r ≡ ended checked g (flashOf (now (slot0 .entry)) [] []) end ⌝ }
+{
+    match end {
+        End::Going => boot_data(data_of(g, slot0), checked),
+        End::Stopped => Outcome::Stopped,
+        End::Unerased => Outcome::Refused(Refusal::Unerased),
+    }
+}
+
+// The list of a course under the allowance, and what comes of it.
+fn take_course(g: Geometry, course: Course, slot0: &mut [u8], slot1: &mut [u8], scratch: &mut [u8], allowance: u64, checked: bool) -> Answer
+    requires { ⌜ Small g ⌝ }
+    requires { ⌜ inBounds (build g) course ≡ true ⌝ }
+    ensures { λ r. ⌜ result r (flashOf (now (slot0 .exit)) (now (slot1 .exit)) (now (scratch .exit))) ≡ answered checked g allowance course (carried g allowance (flashOf (now (slot0 .entry)) (now (slot1 .entry)) (now (scratch .entry))) course) ⌝ }
+{
+    let all = Run {
+        left: allowance,
+        end: End::Going,
+    };
+    let run = carry::courses::carry_out(g, course, slot0, slot1, scratch, all);
+    let end = run.end;
+    Answer {
+        done: plan::done_of(course),
+        found: plan::found_of(course),
+        count: allowance - run.left,
+        outcome: outcome(g, slot0, end, checked),
+    }
+}
+
+pub fn start_taken(g: Geometry, slot0: &mut [u8], slot1: &mut [u8], scratch: &mut [u8], allowance: u64, checked: bool) -> Answer
+    requires { ⌜ Small g ⌝ }
+    ensures { λ r. ⌜ result r (flashOf (now (slot0 .exit)) (now (slot1 .exit)) (now (scratch .exit))) ≡ onCourse checked g allowance (flashOf (now (slot0 .entry)) (now (slot1 .entry)) (now (scratch .entry))) (decide accepted (build g) (flashOf (now (slot0 .entry)) (now (slot1 .entry)) (now (scratch .entry)))) ⌝ }
+{
+    let course = decided(g, slot0, slot1, scratch);
+    match course {
+        Course::Damage => refuse(Refusal::Damage),
+        _ => take_course(g, course, slot0, slot1, scratch, allowance, checked),
+    }
+}
