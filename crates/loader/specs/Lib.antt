@@ -2,3 +2,4 @@ pub mod Numbers
 pub mod PowerUp
 pub mod Marking
 pub mod Results
+pub mod Standing

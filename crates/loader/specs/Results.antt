@@ -1,13 +1,97 @@
 -- An answer with what the areas then hold, as the promises pair them.
 use mathlib.Core.Path.{_≡_, refl, sym, ap, _∙_}
-use Rattle.flash.specs.Build.{Flash}
+use mathlib.Core.List.{List, []}
+use mathlib.Core.Bool.{Bool, true, false}
+use Prim.Native.Nat.{ℕ, _-_}
+use lib.ListN.{length}
+use Rattle.spans.specs.Choice.{pick}
+use Rattle.flash.specs.declared.Geometry.{Geometry}
+use Rattle.flash.specs.declared.Run.{Run}
+use Rattle.flash.specs.declared.End.{End}
+use Rattle.flash.specs.Build.{Flash, fits, valid}
+use Rattle.flash.specs.Base.{build}
+use Rattle.image.specs.Check.{accepted}
+use Rattle.plan.specs.declared.Course.{Course}
+use Rattle.plan.specs.declared.Course.the-variants.{Damage, Settle, Resume, Test, Permanent, Revert, Clear, Nothing}
+use Rattle.plan.specs.declared.Done.{Done}
+use Rattle.plan.specs.Asked.{flashOf}
+use Rattle.plan.specs.Decision.{decide, doneOf, foundOf}
+use Rattle.carry.specs.Areas.{state}
+use Rattle.loader.specs.declared.Refusal.{Refusal}
+use Rattle.loader.specs.declared.Outcome.{Outcome}
+use Rattle.loader.specs.declared.Ending.{Ending}
 use Rattle.loader.specs.declared.Answer.{Answer}
 use Rattle.loader.specs.declared.Marked.{Marked}
-use Rattle.loader.specs.PowerUp.{Result}
-use Rattle.loader.specs.Marking.{MarkResult}
+use Rattle.loader.specs.PowerUp.{Result, bootOf, ended, carried, answered, refused, onCourse, fullStart}
+use Rattle.loader.specs.Marking.{MarkResult, refusedMark}
 
 abbrev pub result : Answer → Flash → Result
 result a f = record { answer = a; flash = f }
 
 abbrev pub markResult : Marked → Flash → MarkResult
 markResult a f = record { answer = a; flash = f }
+
+-- ---- laws for the code
+
+-- whether slot 0 is booted rests on slot 0 alone
+ended-slot0 : (checked : Bool) (g : Geometry) (x0 x1 x2 : List ℕ) (e : End) → ended checked g (flashOf x0 [] []) e ≡ ended checked g (flashOf x0 x1 x2) e
+unfolding ended bootOf
+ended-slot0 checked g x0 x1 x2 End.Going = refl
+ended-slot0 checked g x0 x1 x2 End.Stopped = refl
+ended-slot0 checked g x0 x1 x2 End.Unerased = refl
+
+pub took : (checked : Bool) (g : Geometry) (b : ℕ) (course : Course) (x0 x1 x2 : List ℕ) (r : Run) (done : Done) (found : ℕ) (outcome : Outcome)
+    → done ≡ doneOf course → found ≡ foundOf course → outcome ≡ ended checked g (flashOf x0 [] []) (r .end)
+    → result (record { done = done; found = found; count = b - r .left; outcome = outcome }) (flashOf x0 x1 x2)
+    ≡ answered checked g b course (state x0 x1 x2 r)
+unfolding answered
+took checked g b course x0 x1 x2 r done found outcome d f o = rw (d, f, o, ended-slot0 checked g x0 x1 x2 (r .end)) refl
+
+-- damage, and every other course
+unfoldable pub isDamage : Course → Bool
+isDamage Damage = true
+isDamage (Settle p) = false
+isDamage (Resume c) = false
+isDamage Test = false
+isDamage Permanent = false
+isDamage Revert = false
+isDamage Clear = false
+isDamage Nothing = false
+
+module _ (checked : Bool) (g : Geometry) (b : ℕ) (f : Flash) where
+  pub damaged : (c : Course) → isDamage c ≡ true → onCourse checked g b f c ≡ refused Refusal.Damage f
+  unfolding isDamage onCourse
+  damaged Damage h = refl
+  damaged (Settle p) h = cc
+  damaged (Resume c) h = cc
+  damaged Test h = cc
+  damaged Permanent h = cc
+  damaged Revert h = cc
+  damaged Clear h = cc
+  damaged Nothing h = cc
+
+  pub undamaged : (c : Course) → isDamage c ≡ false → onCourse checked g b f c ≡ answered checked g b c (carried g b f c)
+  unfolding isDamage onCourse
+  undamaged Damage h = cc
+  undamaged (Settle p) h = refl
+  undamaged (Resume c) h = refl
+  undamaged Test h = refl
+  undamaged Permanent h = refl
+  undamaged Revert h = refl
+  undamaged Clear h = refl
+  undamaged Nothing h = refl
+
+-- ---- refusals, as code answers them
+
+pub refusing : (a : Answer) (r : Refusal) (f : Flash)
+    → (a .done ≡ Done.None) × ((a .found ≡ 0) × ((a .count ≡ 0) × (a .outcome ≡ Outcome.Refused r))) → result a f ≡ refused r f
+unfolding refused
+refusing a r f e =
+    let same : result a f ≡ result (record { done = a .done; found = a .found; count = a .count; outcome = a .outcome }) f = refl in
+    same ∙ rw (e .0, e .1 .0, e .1 .1 .0, e .1 .1 .1) refl
+
+pub refusing-mark : (a : Marked) (r : Refusal) (f : Flash) → (a .ending ≡ Ending.Refused r) × (a .count ≡ 0) → markResult a f ≡ refusedMark r f
+unfolding refusedMark
+refusing-mark a r f e =
+    let same : markResult a f ≡ markResult (record { ending = a .ending; count = a .count }) f = refl in
+    same ∙ rw (e .0, e .1) refl

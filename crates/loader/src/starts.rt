@@ -1,16 +1,15 @@
 // The parts of a power-up, for a geometry and areas that are taken.
 ghost use mathlib.Core.Path.{_≡_};
 ghost use mathlib.Core.Bool.{true};
-ghost use Prim.Native.Nat.{_*_, _-_, _≤_};
-ghost use lib.ListN.{take};
+ghost use mathlib.Core.List.{[]};
 ghost use Rattle.flash.specs.Base.{build};
 ghost use Rattle.flash.specs.Small.{Small};
-ghost use Rattle.image.specs.Check.{accepted};
+ghost use Rattle.image.specs.Check.{accepted, head, check};
 ghost use Rattle.plan.specs.Asked.{flashOf};
 ghost use Rattle.plan.specs.Bounds.{inBounds};
 ghost use Rattle.plan.specs.Decision.{decide};
-ghost use Rattle.loader.specs.PowerUp.{dataOf, bootOf, ended, carried, answered, refused, onCourse};
-ghost use Rattle.loader.specs.Results.{result};
+ghost use Rattle.loader.specs.PowerUp.{judgedStart, started, dataOf, ended, carried, answered, onCourse};
+ghost use Rattle.loader.specs.Results.{result, isDamage};
 use crate::Answer;
 use crate::Outcome;
 use crate::Refusal;
@@ -66,24 +65,24 @@ fn decided(g: Geometry, slot0: &[u8], slot1: &[u8], scratch: &[u8]) -> Course
 }
 
 // The check of slot 0, if it is chosen.
-fn checked_boot(data: &[u8], offset: usize) -> Outcome
-    ensures { λ r. ⌜ r ≡ judgedStart offset (check (now (data .entry))) ⌝ }
+fn checked_boot(image: &[u8], offset: usize) -> Outcome
+    ensures { λ r. ⌜ r ≡ judgedStart offset (check (now (image .entry))) ⌝ }
 {
-    match image::check(data) {
+    match image::check(image) {
         Verdict::Accepted => Outcome::Boot(offset),
         Verdict::Rejected(cause) => Outcome::Refused(Refusal::Image(cause)),
     }
 }
 
 // D for the data bytes of slot 0.
-fn boot_data(data: &[u8], checked: bool) -> Outcome
-    ensures { λ r. ⌜ r ≡ started checked (head (now (data .entry))) (check (now (data .entry))) ⌝ }
+fn boot_data(image: &[u8], checked: bool) -> Outcome
+    ensures { λ r. ⌜ r ≡ started checked (head (now (image .entry))) (check (now (image .entry))) ⌝ }
 {
-    match image::head(data) {
+    match image::head(image) {
         Header::Bad(_) => Outcome::Refused(Refusal::Header),
         Header::Good { header, body: _, records: _ } => {
             if checked {
-                checked_boot(data, header)
+                checked_boot(image, header)
             } else {
                 Outcome::Boot(header)
             }
@@ -91,7 +90,7 @@ fn boot_data(data: &[u8], checked: bool) -> Outcome
     }
 }
 
-fn outcome(g: Geometry, slot0: &[u8], end: End, checked: bool) -> Outcome
+fn outcome_of(g: Geometry, slot0: &[u8], end: End, checked: bool) -> Outcome
     requires { ⌜ Small g ⌝ }
     ensures { λ r. ⌜ r ≡ ended checked g (flashOf (now (slot0 .entry)) [] []) end ⌝ }
 {
@@ -118,17 +117,34 @@ fn take_course(g: Geometry, course: Course, slot0: &mut [u8], slot1: &mut [u8], 
         done: plan::done_of(course),
         found: plan::found_of(course),
         count: allowance - run.left,
-        outcome: outcome(g, slot0, end, checked),
+        outcome: outcome_of(g, slot0, end, checked),
     }
 }
 
+fn is_damage(course: Course) -> bool
+    ensures { λ r. ⌜ r ≡ isDamage course ⌝ }
+{
+    match course {
+        Course::Damage => true,
+        Course::Settle(_) => false,
+        Course::Resume(_) => false,
+        Course::Test => false,
+        Course::Permanent => false,
+        Course::Revert => false,
+        Course::Clear => false,
+        Course::Nothing => false,
+    }
+}
+
+// Refusal 2 before anything is written, or the list in force.
 pub fn start_taken(g: Geometry, slot0: &mut [u8], slot1: &mut [u8], scratch: &mut [u8], allowance: u64, checked: bool) -> Answer
     requires { ⌜ Small g ⌝ }
     ensures { λ r. ⌜ result r (flashOf (now (slot0 .exit)) (now (slot1 .exit)) (now (scratch .exit))) ≡ onCourse checked g allowance (flashOf (now (slot0 .entry)) (now (slot1 .entry)) (now (scratch .entry))) (decide accepted (build g) (flashOf (now (slot0 .entry)) (now (slot1 .entry)) (now (scratch .entry)))) ⌝ }
 {
     let course = decided(g, slot0, slot1, scratch);
-    match course {
-        Course::Damage => refuse(Refusal::Damage),
-        _ => take_course(g, course, slot0, slot1, scratch, allowance, checked),
+    if is_damage(course) {
+        refuse(Refusal::Damage)
+    } else {
+        take_course(g, course, slot0, slot1, scratch, allowance, checked)
     }
 }

@@ -1,0 +1,61 @@
+use mathlib.Core.Path.{_≡_, sym, ap, ap₂, _∙_}
+use mathlib.Core.Bool.{false}
+use Rattle.flash.specs.Base.{build}
+use Rattle.image.specs.Check.{accepted}
+use Rattle.plan.specs.Decision.{decide, judged}
+use Rattle.plan.specs.DecisionLaws.{decide-checked, decide-unchecked}
+use Rattle.plan.specs.Asked.{flashOf, askedBy, asksCheck}
+use Rattle.plan.specs.Bounds.{inBounds, asks-bounded, judged-bounded}
+use Rattle.loader.specs.PowerUp.{dataOf}
+use borrow.Author.Needs.{needs}
+use Rattle.loader.proofs.starts.decided.Statement.{statement}
+use Rattle.loader.proofs.starts.decided.Tie as tie
+use Rattle.loader.proofs.starts.decided.Reads as reads
+use Rattle.loader.proofs.starts.decided.Lts as lts
+use Rattle.loader.proofs.starts.slot_accepted.Reads as slot-accepted-reads
+use Rattle.plan.proofs.decision.asks.Reads as asks-reads
+use Rattle.plan.proofs.judge.Reads as judge-reads
+use Rattle.plan.proofs.wants_check.Reads as wants-check-reads
+
+asks-requires : tie.Need-asks-requires
+asks-requires c κs = search needs
+
+wants-check-requires : tie.Need-wants-check-requires
+wants-check-requires c κs = search needs
+
+slot-accepted-requires : tie.Need-slot-accepted-requires
+slot-accepted-requires c κs = search needs
+
+judge-requires : tie.Need-judge-requires
+judge-requires c κs = search needs
+
+returns : tie.Need-returns
+unfolding dataOf
+returns c = 
+    let e : c .judge .result ≡ decide accepted (build (c .before .before .before .before .before .before .before .before .args .g)) (flashOf (c .before .before .before .before .before .before .before .before .args .slot0 .now) (c .before .before .before .before .before .before .before .before .args .slot1 .now) (c .before .before .before .before .before .before .before .before .args .scratch .now)) =
+    c .judge .ensures ∙ ap₂ judged (c .before .slot-accepted .ensures) (c .before .before .before .before .asks .ensures) ∙ sym (decide-checked accepted (c .before .before .before .before .before .before .before .before .args .g) (flashOf (c .before .before .before .before .before .before .before .before .args .slot0 .now) (c .before .before .before .before .before .before .before .before .args .slot1 .now) (c .before .before .before .before .before .before .before .before .args .scratch .now))) in
+    (
+      e,
+      ap (inBounds (build (c .before .before .before .before .before .before .before .before .args .g))) (c .judge .ensures ∙ ap (judged _) (c .before .before .before .before .asks .ensures))
+          ∙ judged-bounded (build (c .before .before .before .before .before .before .before .before .args .g)) (c .before .slot-accepted .result) (askedBy (c .before .before .before .before .before .before .before .before .args .g) (flashOf (c .before .before .before .before .before .before .before .before .args .slot0 .now) (c .before .before .before .before .before .before .before .before .args .slot1 .now) (c .before .before .before .before .before .before .before .before .args .scratch .now))) (asks-bounded (build (c .before .before .before .before .before .before .before .before .args .g)) _ _ _),
+    )
+
+returns-2 : tie.Need-returns-2
+returns-2 c = 
+    let a : askedBy (c .before .before .before .before .before .before .args .g) (flashOf (c .before .before .before .before .before .before .args .slot0 .now) (c .before .before .before .before .before .before .args .slot1 .now) (c .before .before .before .before .before .before .args .scratch .now)) ≡ c .before .before .asks .result = sym (c .before .before .asks .ensures) in
+    let w : asksCheck (askedBy (c .before .before .before .before .before .before .args .g) (flashOf (c .before .before .before .before .before .before .args .slot0 .now) (c .before .before .before .before .before .before .args .slot1 .now) (c .before .before .before .before .before .before .args .scratch .now))) ≡ false = ap asksCheck a ∙ sym (c .before .wants-check .ensures) ∙ c .if1 .left in
+    (
+      c .before .before .asks .ensures ∙ sym (decide-unchecked accepted (c .before .before .before .before .before .before .args .g) (flashOf (c .before .before .before .before .before .before .args .slot0 .now) (c .before .before .before .before .before .before .args .slot1 .now) (c .before .before .before .before .before .before .args .scratch .now)) w),
+      ap (inBounds (build (c .before .before .before .before .before .before .args .g))) (c .before .before .asks .ensures) ∙ asks-bounded (build (c .before .before .before .before .before .before .args .g)) _ _ _,
+    )
+
+pub decided-spec : {M : Type 1} → statement M
+decided-spec =
+    tie.close
+    (tie.spec
+    asks-requires
+    wants-check-requires
+    slot-accepted-requires
+    judge-requires
+    returns
+    returns-2)

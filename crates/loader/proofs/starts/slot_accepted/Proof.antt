@@ -1,0 +1,37 @@
+use mathlib.Core.Path.{_≡_, sym, ap, _∙_}
+use Rattle.image.specs.declared.Verdict.{Verdict}
+use Rattle.image.specs.Check.{check, isAccepted, accepted}
+use Rattle.loader.specs.PowerUp.{dataOf}
+use borrow.Author.Needs.{needs}
+use Rattle.loader.proofs.starts.slot_accepted.Statement.{statement}
+use Rattle.loader.proofs.starts.slot_accepted.Tie as tie
+use Rattle.loader.proofs.starts.slot_accepted.Reads as reads
+use Rattle.loader.proofs.starts.slot_accepted.Lts as lts
+use Rattle.image.proofs.check.Reads as check-reads
+use Rattle.loader.proofs.starts.data_of.Reads as data-of-reads
+
+data-of-requires : tie.Need-data-of-requires
+data-of-requires c κs = search needs
+
+check-requires : tie.Need-check-requires
+check-requires c κs = search needs
+
+enum-told : tie.Need-enum-told
+enum-told c = search needs
+
+enum-told-2 : tie.Need-enum-told-2
+enum-told-2 c = search needs
+
+returns : tie.Need-returns
+unfolding accepted isAccepted
+returns c = 
+    ap isAccepted (sym (c .enum-told .given .1) ∙ c .before .before .check .ensures ∙ ap check (c .before .before .before .data-of .ensures))
+
+returns-2 : tie.Need-returns-2
+unfolding accepted isAccepted
+returns-2 c = 
+    ap isAccepted (sym (c .enum-told2 .given .1) ∙ c .before .before .check .ensures ∙ ap check (c .before .before .before .data-of .ensures))
+
+pub slot-accepted-spec : {M : Type 1} → statement M
+slot-accepted-spec =
+    tie.close (tie.spec data-of-requires check-requires enum-told enum-told-2 returns returns-2)
