@@ -12,13 +12,14 @@ use Rattle.flash.specs.declared.Run.{Run}
 use Rattle.flash.specs.Geometry.{sectorNo}
 use Rattle.flash.specs.Build.{slot0, slot1, scratch, Move, trailerSector}
 use Rattle.flash.specs.Base.{allMoves, base, build}
+use Rattle.flash.specs.BaseLaws.{length-moves}
 use Rattle.flash.specs.Operations.{Op, State, Local, local, in-area, back, eraseIn, step, steps}
 use Rattle.flash.specs.OperationLaws.{steps-append}
 use Rattle.trailer.specs.Trailer.{doneAt}
 use Rattle.plan.specs.Lists.{clear, mark, okOps, progress, magicOps, begin, settle, moveOps, dataOps, erases, clearOut}
 use Rattle.carry.specs.Steps.{moveIn, steps-move}
 use Rattle.carry.specs.InArea.{markIn, okIn, beginIn, lineFiveIn, erasesIn, steps-ok, steps-begin, steps-line-five, steps-erases}
-use Rattle.carry.specs.Moves.{moveOf, next-move, length-moves}
+use Rattle.carry.specs.Moves.{moveOf, next-move}
 
 abbrev pub state : List ℕ → List ℕ → List ℕ → Run → State
 state x0 x1 x2 r = record { flash = record { in0 = x0; in1 = x1; in2 = x2 }; run = r }

@@ -4,7 +4,7 @@ use mathlib.Core.List.{List, [], _∷_, _++_}
 use Prim.Native.Nat.{ℕ, zero, suc, _+_, _*_, _-_, _/_, _%_, _≤_, _<_}
 use native.Mathlib.Nat.{add-div-right, add-mod-right}
 use native.Mathlib.Omega.{arith}
-use lib.ListN.{length, drop}
+use lib.ListN.{drop}
 use Rattle.flash.specs.Geometry.{sectorNo}
 use Rattle.flash.specs.Build.{slot0, slot1, scratch, Move}
 use Rattle.flash.specs.Base.{threeMoves, allMoves}
@@ -40,8 +40,3 @@ next-move n k lo hi =
     by-number (n - 1) t (omega arith)
     ∙ ap₂ (λ (i j : ℕ). moveOf i j ∷ drop (suc t) (allMoves (n - 1))) e r
     ∙ ap (λ (x : ℕ). moveOf (n - 1 - k / 3) (k % 3) ∷ drop x (allMoves (n - 1))) s
-
-pub length-moves : (m : ℕ) → length (allMoves m) ≡ 3 * m
-unfolding allMoves threeMoves
-length-moves zero = refl
-length-moves (suc m) = omega (arith, length-moves m)

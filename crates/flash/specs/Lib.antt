@@ -1,6 +1,7 @@
 pub mod Geometry
 pub mod Build
 pub mod Base
+pub mod BaseLaws
 pub mod Operations
 pub mod Harm
 pub mod Small

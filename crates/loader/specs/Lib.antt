@@ -3,3 +3,4 @@ pub mod PowerUp
 pub mod Marking
 pub mod Results
 pub mod Standing
+pub mod MarkLaws

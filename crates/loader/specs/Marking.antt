@@ -59,10 +59,12 @@ unmarked g f =
     isUnset (markOf (build g) t1 (okAt (build g))) && noMagic (magicOf (build g) t1)
 
 -- "Marking slot 1 (test or permanent) writes image ok 01 if permanent, then magic."
+unfoldable pub markUnlessMarked : Bool → Geometry → Flash → MarkResult
+markUnlessMarked permanent g f =
+    pick (unmarked g f) (wroteAll g (okOps (build g) slot1 permanent ++ magicOps (build g) slot1) f) (refusedMark Refusal.Marks f)
+
 unfoldable pub marking : Bool → Geometry → Flash → MarkResult
-marking permanent g f =
-    unlessRefused g f
-    (pick (unmarked g f) (wroteAll g (okOps (build g) slot1 permanent ++ magicOps (build g) slot1) f) (refusedMark Refusal.Marks f))
+marking permanent g f = unlessRefused g f (markUnlessMarked permanent g f)
 
 -- "it needs slot 0 magic Good, copy done 01, image ok Unset"
 unfoldable pub confirmable : Geometry → Flash → Bool
@@ -71,5 +73,8 @@ confirmable g f =
     isGood (magicOf (build g) t0) && (hasValue 1 (markOf (build g) t0 (doneAt (build g))) && isUnset (markOf (build g) t0 (okAt (build g))))
 
 -- "Confirming writes slot 0 image ok 01"
+unfoldable pub confirmIfNeeded : Geometry → Flash → MarkResult
+confirmIfNeeded g f = pick (confirmable g f) (wroteAll g (okOps (build g) slot0 true) f) (refusedMark Refusal.Needs f)
+
 unfoldable pub confirming : Geometry → Flash → MarkResult
-confirming g f = unlessRefused g f (pick (confirmable g f) (wroteAll g (okOps (build g) slot0 true) f) (refusedMark Refusal.Needs f))
+confirming g f = unlessRefused g f (confirmIfNeeded g f)

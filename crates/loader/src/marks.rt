@@ -1,10 +1,14 @@
 // The parts of marking and confirming, for a geometry and areas that are taken.
 ghost use mathlib.Core.Path.{_≡_};
-ghost use mathlib.Core.List.{[]};
-ghost use Prim.Native.Nat.{_-_, _≤_};
+ghost use mathlib.Core.List.{List, [], _++_};
+ghost use Prim.Native.Nat.{ℕ, _-_, _≤_};
+ghost use lib.ListN.{length};
+ghost use Rattle.flash.specs.Build.{Area};
+ghost use Rattle.flash.specs.Base.{build};
 ghost use Rattle.flash.specs.Small.{Small};
+ghost use Rattle.plan.specs.Lists.{okOps, magicOps};
 ghost use Rattle.plan.specs.Asked.{flashOf, askedBy};
-ghost use Rattle.loader.specs.Marking.{endingOf, unmarked, confirmable};
+ghost use Rattle.loader.specs.Marking.{endingOf, unlessUnderWay, unmarked, markUnlessMarked, confirmable, confirmIfNeeded};
 ghost use Rattle.loader.specs.Standing.{standingOf};
 ghost use Rattle.loader.specs.Results.{markResult};
 use crate::Ending;
@@ -91,4 +95,74 @@ fn is_confirmable(g: Geometry, slot0: &[u8]) -> bool
         }
     }
     false
+}
+
+// The writes that marking takes.
+fn mark_writes(g: Geometry, permanent: bool) -> u64
+    requires { ⌜ Small g ⌝ }
+    ensures { λ r. ⌜ r ≡ length (okOps (build g) Area.slot1 permanent ++ magicOps (build g) Area.slot1) ⌝ }
+{
+    let magic = (16 / g.unit) as u64;
+    if permanent {
+        1 + magic
+    } else {
+        magic
+    }
+}
+
+// Marking where no exchange is under way. Slot 0 and scratch, x0 and x2, have no part in it.
+fn mark_free(g: Geometry, slot1: &mut [u8], permanent: bool) -> Marked
+    requires { ⌜ Small g ⌝ }
+    ensures { λ r. ⌜ ((x0 x2 : List ℕ) → markResult r (flashOf x0 (now (slot1 .exit)) x2) ≡ markUnlessMarked permanent g (flashOf x0 (now (slot1 .entry)) x2)) ⌝ }
+{
+    if is_unmarked(g, slot1) {
+        let all = mark_writes(g, permanent);
+        let start = Run {
+            left: all,
+            end: End::Going,
+        };
+        let run = carry::trailers::ok_and_magic(g, slot1, permanent, start);
+        written(all, run)
+    } else {
+        refuse(Refusal::Marks)
+    }
+}
+
+pub fn mark_taken(g: Geometry, slot0: &[u8], slot1: &mut [u8], scratch: &[u8], permanent: bool) -> Marked
+    requires { ⌜ Small g ⌝ }
+    ensures { λ r. ⌜ markResult r (flashOf (now (slot0 .entry)) (now (slot1 .exit)) (now (scratch .entry))) ≡ unlessUnderWay (askedBy g (flashOf (now (slot0 .entry)) (now (slot1 .entry)) (now (scratch .entry)))) (flashOf (now (slot0 .entry)) (now (slot1 .entry)) (now (scratch .entry))) (markUnlessMarked permanent g (flashOf (now (slot0 .entry)) (now (slot1 .entry)) (now (scratch .entry)))) ⌝ }
+{
+    let course = plan::decision::asks(g, slot0, slot1, scratch);
+    match standing_of(course) {
+        Standing::Free => mark_free(g, slot1, permanent),
+        Standing::Refused(refusal) => refuse(refusal),
+    }
+}
+
+// Confirming where no exchange is under way.
+fn confirm_free(g: Geometry, slot0: &mut [u8]) -> Marked
+    requires { ⌜ Small g ⌝ }
+    ensures { λ r. ⌜ ((x1 x2 : List ℕ) → markResult r (flashOf (now (slot0 .exit)) x1 x2) ≡ confirmIfNeeded g (flashOf (now (slot0 .entry)) x1 x2)) ⌝ }
+{
+    if is_confirmable(g, slot0) {
+        let start = Run {
+            left: 1,
+            end: End::Going,
+        };
+        let run = carry::trailers::write_ok(g, slot0, Sector(g.sectors - 1), true, start);
+        written(1, run)
+    } else {
+        refuse(Refusal::Needs)
+    }
+}
+
+pub fn confirm_taken(g: Geometry, slot0: &mut [u8], slot1: &[u8], scratch: &[u8]) -> Marked
+    requires { ⌜ Small g ⌝ }
+    ensures { λ r. ⌜ markResult r (flashOf (now (slot0 .exit)) (now (slot1 .entry)) (now (scratch .entry))) ≡ unlessUnderWay (askedBy g (flashOf (now (slot0 .entry)) (now (slot1 .entry)) (now (scratch .entry)))) (flashOf (now (slot0 .entry)) (now (slot1 .entry)) (now (scratch .entry))) (confirmIfNeeded g (flashOf (now (slot0 .entry)) (now (slot1 .entry)) (now (scratch .entry)))) ⌝ }
+{
+    let course = plan::decision::asks(g, slot0, slot1, scratch);
+    match standing_of(course) {
+        Standing::Free => confirm_free(g, slot0),
+        Standing::Refused(refusal) => refuse(refusal),
+    }
 }

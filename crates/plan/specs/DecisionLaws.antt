@@ -3,7 +3,7 @@
 use mathlib.Core.Path.{_≡_, refl}
 use mathlib.Core.List.{List}
 use mathlib.Core.Bool.{Bool, true, false, _&&_}
-use Prim.Native.Nat.{ℕ, zero, suc, _+_, _*_, _-_, _≤_, _<_}
+use Prim.Native.Nat.{ℕ, _+_, _*_, _-_, _≤_, _<_}
 use native.Mathlib.Omega.{arith}
 use lib.ListN.{length, take}
 use lib.Dec.{eqb, leb}
@@ -11,7 +11,8 @@ use borrow.Author.Tests.{eq-eqb, ne-eqb, le-leb, lt-leb}
 use Rattle.spans.specs.Choice.{pick}
 use Rattle.flash.specs.declared.Geometry.{Geometry}
 use Rattle.flash.specs.Build.{slot0, slot1, scratch, Build, Flash}
-use Rattle.flash.specs.Base.{threeMoves, allMoves, base, build}
+use Rattle.flash.specs.Base.{base, build}
+use Rattle.flash.specs.BaseLaws.{length-moves}
 use Rattle.flash.specs.Small.{Small}
 use Rattle.trailer.specs.Trailer.{trailer, okAt, doneAt, magicOf, isGood, noMagic, markOf, isUnset, hasValue, legal}
 use Rattle.plan.specs.declared.Course.{Course}
@@ -35,11 +36,6 @@ revertDue g t0 t1 =
     isGood (magicOf g t0) && (isUnset (markOf g t0 (okAt g)) && (hasValue 1 (markOf g t0 (doneAt g)) && noMagic (magicOf g t1)))
 
 -- ---- the run of marks
-
-length-moves : (m : ℕ) → length (allMoves m) ≡ 3 * m
-unfolding threeMoves allMoves
-length-moves zero = refl
-length-moves (suc m) = omega (arith, length-moves m)
 
 -- "c from 3 to 3n"
 pub most-marks : (g : Geometry) → Small g → 3 + length (build g .moves) ≡ 3 * g .sectors

@@ -5,3 +5,4 @@ pub mod Order
 pub mod Asked
 pub mod DecisionLaws
 pub mod Bounds
+pub mod Lengths

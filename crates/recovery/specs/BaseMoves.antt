@@ -12,21 +12,18 @@ use Rattle.flash.specs.Geometry.{sectorNo}
 use Rattle.flash.specs.Build.{Area, slot0, slot1, Build, Flash, dataSectors}
 use Rattle.flash.specs.Operations.{runAll}
 use Rattle.flash.specs.Base.{threeMoves, allMoves, base}
+use Rattle.flash.specs.BaseLaws.{length-moves}
 use Rattle.plan.specs.Lists.{exchange}
 use Rattle.recovery.specs.All.{All, none, one, all-append}
 use Rattle.recovery.specs.Places.{Geo, magic-units}
-use Rattle.recovery.specs.Count.{one-if, length-exchange}
+use Rattle.plan.specs.Lengths.{one-if}
+use Rattle.recovery.specs.Count.{length-exchange}
 use Rattle.recovery.specs.Statement.{Sound, Proper, sectorOf, Swapped}
 use Rattle.recovery.specs.Validity.{Valid}
 use Rattle.recovery.specs.Sectors.{Contents, moved1, moved}
 use Rattle.recovery.specs.MoveRun.{sector-exchange}
 
 -- ---- the moves are sound
-
-length-all : (k : ℕ) → length (allMoves k) ≡ 3 * k
-unfolding allMoves threeMoves
-length-all zero = refl
-length-all (suc k) = omega (arith, length-all k)
 
 proper-three : (w s n i : ℕ) → i < n - 1 → All (Proper (base w s n)) (threeMoves i)
 unfolding threeMoves base
@@ -45,7 +42,7 @@ pub base-sound : (w s n : ℕ) → 1 ≤ n → Sound (base w s n)
 unfolding base
 base-sound w s n h = record {
   small = λ k. omega (arith, mod-lt k {m = 3} (omega arith));
-  places = omega (arith, length-all (n - 1));
+  places = omega (arith, length-moves (n - 1));
   proper = proper-all w s n (n - 1) (omega arith);
 }
 
@@ -56,7 +53,7 @@ unfolding base
 length-base w s n p geo =
     let h : 16 / w * w ≡ 16 = magic-units geo in
     let q : 32 / w ≡ 2 * (16 / w) = div-eq-of-eq-mul-left (geo .positive) (omega arith) in
-    length-exchange (base w s n) p ∙ rw (length-all (n - 1), q) refl
+    length-exchange (base w s n) p ∙ rw (length-moves (n - 1), q) refl
 
 -- ---- what they do: the sectors change places
 

@@ -18,7 +18,7 @@ use Rattle.plan.specs.Decision.{inForce}
 use Rattle.recovery.specs.Cuts.{stopped-cut}
 use Rattle.recovery.specs.Statement.{Failures, never, again, Due, Sound, Swapped}
 use Rattle.recovery.specs.Bridge.{in-force-steps}
-use Rattle.recovery.specs.Count.{one-if}
+use Rattle.plan.specs.Lengths.{one-if}
 use Rattle.recovery.specs.Validity.{Valid, of-valid}
 use Rattle.recovery.specs.NeverLost.{run-ends, steps-ends, steps-end}
 use Rattle.recovery.specs.BaseMoves.{base-sound, base-swaps, length-base}

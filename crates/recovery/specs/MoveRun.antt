@@ -20,7 +20,7 @@ use Rattle.recovery.specs.All.{All, one-less}
 use Rattle.recovery.specs.Cuts.{runAll-append, run-all}
 use Rattle.recovery.specs.Windows.{hidden-run, hidden-erase, wipe}
 use Rattle.recovery.specs.Places.{Geo, Sized, per, per-back, unit-small, done-unit}
-use Rattle.recovery.specs.Count.{length-copies}
+use Rattle.plan.specs.Lengths.{length-copies}
 use Rattle.recovery.specs.Statement.{Proper, sectorOf}
 use Rattle.recovery.specs.Hiding.{hidden-mark, hidden-begin, hidden-progress}
 use Rattle.recovery.specs.Begin.{sized-run}
