@@ -103,11 +103,7 @@ fn mark_writes(g: Geometry, permanent: bool) -> u64
     ensures { λ r. ⌜ r ≡ length (okOps (build g) Area.slot1 permanent ++ magicOps (build g) Area.slot1) ⌝ }
 {
     let magic = (16 / g.unit) as u64;
-    if permanent {
-        1 + magic
-    } else {
-        magic
-    }
+    if permanent { 1 + magic } else { magic }
 }
 
 // Marking where no exchange is under way. Slot 0 and scratch, x0 and x2, have no part in it.
@@ -128,7 +124,13 @@ fn mark_free(g: Geometry, slot1: &mut [u8], permanent: bool) -> Marked
     }
 }
 
-pub fn mark_taken(g: Geometry, slot0: &[u8], slot1: &mut [u8], scratch: &[u8], permanent: bool) -> Marked
+pub fn mark_taken(
+    g: Geometry,
+    slot0: &[u8],
+    slot1: &mut [u8],
+    scratch: &[u8],
+    permanent: bool,
+) -> Marked
     requires { ⌜ Small g ⌝ }
     ensures { λ r. ⌜ markResult r (flashOf (now (slot0 .entry)) (now (slot1 .exit)) (now (scratch .entry))) ≡ unlessUnderWay (askedBy g (flashOf (now (slot0 .entry)) (now (slot1 .entry)) (now (scratch .entry)))) (flashOf (now (slot0 .entry)) (now (slot1 .entry)) (now (scratch .entry))) (markUnlessMarked permanent g (flashOf (now (slot0 .entry)) (now (slot1 .entry)) (now (scratch .entry)))) ⌝ }
 {

@@ -80,7 +80,11 @@ fn boot_data(image: &[u8], checked: bool) -> Outcome
 {
     match image::head(image) {
         Header::Bad(_) => Outcome::Refused(Refusal::Header),
-        Header::Good { header, body: _, records: _ } => {
+        Header::Good {
+            header,
+            body: _,
+            records: _,
+        } => {
             if checked {
                 checked_boot(image, header)
             } else {
@@ -102,7 +106,15 @@ fn outcome_of(g: Geometry, slot0: &[u8], end: End, checked: bool) -> Outcome
 }
 
 // The list of a course under the allowance, and what comes of it.
-fn take_course(g: Geometry, course: Course, slot0: &mut [u8], slot1: &mut [u8], scratch: &mut [u8], allowance: u64, checked: bool) -> Answer
+fn take_course(
+    g: Geometry,
+    course: Course,
+    slot0: &mut [u8],
+    slot1: &mut [u8],
+    scratch: &mut [u8],
+    allowance: u64,
+    checked: bool,
+) -> Answer
     requires { ⌜ Small g ⌝ }
     requires { ⌜ inBounds (build g) course ≡ true ⌝ }
     ensures { λ r. ⌜ result r (flashOf (now (slot0 .exit)) (now (slot1 .exit)) (now (scratch .exit))) ≡ answered checked g allowance course (carried g allowance (flashOf (now (slot0 .entry)) (now (slot1 .entry)) (now (scratch .entry))) course) ⌝ }
@@ -137,7 +149,14 @@ fn is_damage(course: Course) -> bool
 }
 
 // Refusal 2 before anything is written, or the list in force.
-pub fn start_taken(g: Geometry, slot0: &mut [u8], slot1: &mut [u8], scratch: &mut [u8], allowance: u64, checked: bool) -> Answer
+pub fn start_taken(
+    g: Geometry,
+    slot0: &mut [u8],
+    slot1: &mut [u8],
+    scratch: &mut [u8],
+    allowance: u64,
+    checked: bool,
+) -> Answer
     requires { ⌜ Small g ⌝ }
     ensures { λ r. ⌜ result r (flashOf (now (slot0 .exit)) (now (slot1 .exit)) (now (scratch .exit))) ≡ onCourse checked g allowance (flashOf (now (slot0 .entry)) (now (slot1 .entry)) (now (scratch .entry))) (decide accepted (build g) (flashOf (now (slot0 .entry)) (now (slot1 .entry)) (now (scratch .entry)))) ⌝ }
 {

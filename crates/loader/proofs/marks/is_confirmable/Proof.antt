@@ -32,7 +32,7 @@ ok-unset-requires c κs = search needs
 
 returns : tie.Need-returns
 unfolding confirmable trailer base
-returns c = 
+returns c =
     let T : List ℕ = drop (startOf (c .before .before .before .before .before .before .before .args .g) (trailerSector (build (c .before .before .before .before .before .before .before .args .g)) Area.slot0) .0) (c .before .before .before .before .before .before .before .args .slot0 .now) in
     let te : c .before .before .before .before .before .slot-trailer .result .now ≡ T = c .before .before .before .before .before .slot-trailer .ensures in
     let m : isGood (magicOf (build (c .before .before .before .before .before .before .before .args .g)) T) ≡ true = sym (c .before .before .before .before .magic-good .ensures ∙ ap (λ (t : List ℕ). isGood (magicOf (build (c .before .before .before .before .before .before .before .args .g)) t)) te) ∙ c .before .before .before .if1 .taken in
@@ -42,7 +42,7 @@ returns c =
 
 returns-2 : tie.Need-returns-2
 unfolding confirmable trailer base
-returns-2 c = 
+returns-2 c =
     let T : List ℕ = drop (startOf (c .before .before .before .before .before .before .args .g) (trailerSector (build (c .before .before .before .before .before .before .args .g)) Area.slot0) .0) (c .before .before .before .before .before .before .args .slot0 .now) in
     let te : c .before .before .before .before .slot-trailer .result .now ≡ T = c .before .before .before .before .slot-trailer .ensures in
     let m : isGood (magicOf (build (c .before .before .before .before .before .before .args .g)) T) ≡ true = sym (c .before .before .before .magic-good .ensures ∙ ap (λ (t : List ℕ). isGood (magicOf (build (c .before .before .before .before .before .before .args .g)) t)) te) ∙ c .before .before .if1 .taken in
@@ -51,7 +51,7 @@ returns-2 c =
 
 returns-3 : tie.Need-returns-3
 unfolding confirmable trailer base
-returns-3 c = 
+returns-3 c =
     let T : List ℕ = drop (startOf (c .before .before .before .before .args .g) (trailerSector (build (c .before .before .before .before .args .g)) Area.slot0) .0) (c .before .before .before .before .args .slot0 .now) in
     let te : c .before .before .slot-trailer .result .now ≡ T = c .before .before .slot-trailer .ensures in
     let m : isGood (magicOf (build (c .before .before .before .before .args .g)) T) ≡ false = sym (c .before .magic-good .ensures ∙ ap (λ (t : List ℕ). isGood (magicOf (build (c .before .before .before .before .args .g)) t)) te) ∙ c .if1 .left in

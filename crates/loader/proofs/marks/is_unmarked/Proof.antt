@@ -28,7 +28,7 @@ magic-unset-requires c κs = search needs
 
 returns : tie.Need-returns
 unfolding unmarked trailer base
-returns c = 
+returns c =
     let T : List ℕ = drop (startOf (c .before .before .before .before .before .args .g) (trailerSector (build (c .before .before .before .before .before .args .g)) Area.slot0) .0) (c .before .before .before .before .before .args .slot1 .now) in
     let te : c .before .before .before .slot-trailer .result .now ≡ T = c .before .before .before .slot-trailer .ensures in
     let ok : isUnset (markOf (build (c .before .before .before .before .before .args .g)) T (okAt (build (c .before .before .before .before .before .args .g)))) ≡ true =
@@ -38,7 +38,7 @@ returns c =
 
 returns-2 : tie.Need-returns-2
 unfolding unmarked trailer base
-returns-2 c = 
+returns-2 c =
     let T : List ℕ = drop (startOf (c .before .before .before .before .args .g) (trailerSector (build (c .before .before .before .before .args .g)) Area.slot0) .0) (c .before .before .before .before .args .slot1 .now) in
     let te : c .before .before .slot-trailer .result .now ≡ T = c .before .before .slot-trailer .ensures in
     let ok : isUnset (markOf (build (c .before .before .before .before .args .g)) T (okAt (build (c .before .before .before .before .args .g)))) ≡ false =

@@ -21,7 +21,7 @@ returns : tie.Need-returns
 returns c = sym (length-marking (c .before .before .args .g) (c .before .before .args .permanent) ∙ ap (λ (p : Bool). one-if p + 16 / c .before .before .args .g .unit) (c .if1 .taken))
 
 returns-2 : tie.Need-returns-2
-returns-2 c = 
+returns-2 c =
     let z : 0 + 16 / c .before .before .args .g .unit ≡ 16 / c .before .before .args .g .unit = omega arith in
     sym (length-marking (c .before .before .args .g) (c .before .before .args .permanent) ∙ ap (λ (p : Bool). one-if p + 16 / c .before .before .args .g .unit) (c .if1 .left) ∙ z)
 

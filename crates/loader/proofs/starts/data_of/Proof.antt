@@ -27,7 +27,7 @@ slice-aggregate-result c = sym (length-take-le (c .before .least .result) (c .be
 
 returns : tie.Need-returns
 unfolding dataOf
-returns c = 
+returns c =
     let n : ℕ = (c .before .before .before .before .before .args .g .sectors - 1) * c .before .before .before .before .before .args .g .sector in
     ap (λ (k : ℕ). take k (c .before .before .before .before .before .args .slot .now)) (c .before .least .ensures)
     ∙ sym (take-min (length (c .before .before .before .before .before .args .slot .now)) n (c .before .before .before .before .before .args .slot .now)) ∙ take-all (length (c .before .before .before .before .before .args .slot .now)) (take n (c .before .before .before .before .before .args .slot .now)) (simp length-take (omega arith))

@@ -29,7 +29,7 @@ enum-told-3 c = search needs
 
 returns : tie.Need-returns
 unfolding ended bootOf
-returns c = 
+returns c =
     c .boot-data .ensures
     ∙ ap (λ (xs : List ℕ). started (c .before .before .before .before .before .args .checked) (head xs) (check xs)) (c .before .data-of .ensures)
     ∙ ap (ended (c .before .before .before .before .before .args .checked) (c .before .before .before .before .before .args .g) (flashOf (c .before .before .before .before .before .args .slot0 .now) [] [])) (sym (c .before .before .enum-told .given .1))

@@ -27,7 +27,7 @@ found-of-requires : tie.Need-found-of-requires
 found-of-requires c κs = search needs
 
 sub-t20 : tie.Need-sub-t20
-sub-t20 c = 
+sub-t20 c =
     let r = c .before .before .before .before .before .before .before .before .before .carry-out .ensures in
     let left : c .before .before .before .before .before .before .before .before .before .carry-out .result .left ≡ _ = ap (λ (s : State). s .run .left) r in
     omega (arith, left, steps-left (build (c .before .before .before .before .before .before .before .before .before .before .before .before .before .before .before .before .args .g)) (listOf (build (c .before .before .before .before .before .before .before .before .before .before .before .before .before .before .before .before .args .g)) (okUnset (build (c .before .before .before .before .before .before .before .before .before .before .before .before .before .before .before .before .args .g)) (flashOf (c .before .before .before .before .before .before .before .before .before .before .before .before .before .before .before .before .args .slot0 .now) (c .before .before .before .before .before .before .before .before .before .before .before .before .before .before .before .before .args .slot1 .now) (c .before .before .before .before .before .before .before .before .before .before .before .before .before .before .before .before .args .scratch .now))) (c .before .before .before .before .before .before .before .before .before .before .before .before .before .before .before .before .args .course)) (start (c .before .before .before .before .before .before .before .before .before .before .before .before .before .before .before .before .args .allowance) (flashOf (c .before .before .before .before .before .before .before .before .before .before .before .before .before .before .before .before .args .slot0 .now) (c .before .before .before .before .before .before .before .before .before .before .before .before .before .before .before .before .args .slot1 .now) (c .before .before .before .before .before .before .before .before .before .before .before .before .before .before .before .before .args .scratch .now))))
@@ -46,7 +46,7 @@ same-length-3 c = search needs
 
 returns : tie.Need-returns
 unfolding carried
-returns c = 
+returns c =
     took (c .before .before .before .before .before .before .before .before .before .before .before .before .before .before .before .before .before .before .args .checked) (c .before .before .before .before .before .before .before .before .before .before .before .before .before .before .before .before .before .before .args .g) (c .before .before .before .before .before .before .before .before .before .before .before .before .before .before .before .before .before .before .args .allowance) (c .before .before .before .before .before .before .before .before .before .before .before .before .before .before .before .before .before .before .args .course) _ _ _ (c .before .before .before .before .before .before .before .before .before .before .before .carry-out .result) _ _ _
     (c .before .before .before .before .done-of .ensures) (c .before .before .before .found-of .ensures) (c .outcome-of .ensures)
     ∙ ap (answered (c .before .before .before .before .before .before .before .before .before .before .before .before .before .before .before .before .before .before .args .checked) (c .before .before .before .before .before .before .before .before .before .before .before .before .before .before .before .before .before .before .args .g) (c .before .before .before .before .before .before .before .before .before .before .before .before .before .before .before .before .before .before .args .allowance) (c .before .before .before .before .before .before .before .before .before .before .before .before .before .before .before .before .before .before .args .course)) (c .before .before .before .before .before .before .before .before .before .before .before .carry-out .ensures)
