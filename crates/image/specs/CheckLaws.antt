@@ -1,18 +1,17 @@
 -- When the header is good, and what the bytes come to then.
-use mathlib.Core.Path.{_≡_, refl, sym, ap, _∙_}
-use mathlib.Core.List.{List, [], _∷_}
+use mathlib.Core.Path.{_≡_}
+use mathlib.Core.List.{List}
 use Prim.Native.Nat.{ℕ, _+_, _-_, _≤_, _<_}
-use native.Mathlib.Omega.{arith}
 use borrow.Author.Tests.{lt-ltb, le-ltb, eq-eqb, ne-eqb}
 use lib.ListN.{length, take, drop}
 use native.Mathlib.Nat.{add-sub-cancel-left}
-use mathlib.Core.Bool.{Bool, true, false}
+use mathlib.Core.Bool.{true, false}
 use Rattle.spans.specs.Bytes.{part, same}
 use Rattle.sha256.specs.Fips.{sha256}
 use Rattle.image.specs.Header.{magicNumber, headerMagic, recordsSize, headerSize, bodySize, imageSize}
 use Rattle.image.specs.Check.{sizes, head, digestAt}
 use Rattle.image.specs.declared.Cause.the-variants.{HeaderMagic, HeaderSizes, DigestDiffers}
-use Rattle.image.specs.declared.Layout.the-variants.{Wrong, Sound}
+use Rattle.image.specs.declared.Layout.the-variants.{Sound}
 use Rattle.image.specs.declared.Verdict.the-variants.{Accepted, Rejected}
 use Rattle.image.specs.declared.Header.the-variants.{Bad, Good}
 

@@ -2,8 +2,8 @@
 -- 1 to 4 is met, or what passes to the digest: how many bytes it covers, and where it stands.
 use mathlib.Core.Path.{_≡_, refl}
 use mathlib.Core.List.{List, [], _∷_, _++_, map}
-use Prim.Native.Nat.{ℕ, _+_, _*_}
-use lib.ListN.{length, replicate}
+use Prim.Native.Nat.{ℕ}
+use lib.ListN.{replicate}
 use Rattle.spans.specs.Bytes.{part}
 use Rattle.image.specs.Header.{little, field, headerMagic, recordsSize, headerSize, bodySize, coveredSize, imageSize}
 use Rattle.image.specs.Records.{recordAt, stepAt, after, recordOf, firstThen, splitIn, records, digests}

@@ -1,13 +1,13 @@
 -- Laws of little endian fields, for the code that reads them.
-use mathlib.Core.Path.{_≡_, refl, sym, ap, _∙_}
+use mathlib.Core.Path.{_≡_, sym, ap, _∙_}
 use mathlib.Core.List.{List, [], _∷_, _++_}
-use Prim.Native.Nat.{ℕ, suc, _+_, _*_, _≤_, _<_}
+use Prim.Native.Nat.{ℕ, suc, _+_, _*_, _≤_}
 use native.Mathlib.Numerals.{add-one}
 use native.Mathlib.Omega.{arith}
 use lib.ListN.{length, getD, drop}
 use lib.Seq.{drop-cons}
 use Rattle.spans.specs.Bytes.{part}
-use Rattle.spans.specs.Laws.{part-join}
+use Rattle.spans.specs.Laws.{part-add}
 use Rattle.image.specs.Header.{little, field}
 
 little-two : (a b : ℕ) → little (a ∷ b ∷ []) ≡ a + b * 256
@@ -35,4 +35,4 @@ pub field-four : (xs : List ℕ) (at : ℕ) → at + 4 ≤ length xs → field x
 unfolding field
 field-four xs at h =
     let first : part xs at 2 ≡ getD xs at 0 ∷ getD xs (at + 1) 0 ∷ [] = part-two xs at (omega arith) in
-    rw (part-join xs at 2 2, first, little-two, little-more)
+    rw (← part-add xs at 2 2, first, little-two, little-more)

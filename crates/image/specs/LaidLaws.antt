@@ -1,17 +1,17 @@
 -- An area and its records: each area begins with the records that are read in it, and records are read as they were laid.
 use mathlib.Core.Path.{_≡_, refl, sym, ap, _∙_}
-use mathlib.Core.List.{List, [], _∷_, _++_, append-nil, append-assoc}
+use mathlib.Core.List.{List, [], _∷_, _++_, append-assoc}
 use mathlib.Core.Bool.{Bool, true, false}
 use lib.Dec.{eqb}
-use Prim.Native.Nat.{ℕ, zero, suc, _+_, _≤_, _<_}
+use Prim.Native.Nat.{ℕ, zero, suc, _+_, _≤_}
 use native.Mathlib.Omega.{arith}
-use lib.ListN.{length, getD, take, drop, length-append, take-append-drop}
+use lib.ListN.{length, drop, length-append, take-append-drop}
 use lib.Seq.{drop-drop, drop-append-seam, drop-append-add, take-append-seam}
 use Rattle.spans.specs.Bytes.{part}
 use Rattle.image.specs.Header.{little, field}
 use Rattle.image.specs.Records.{Trailing, Split, Place, stepAt, after, recordOf, firstThen, splitIn, records, digests}
-use Rattle.image.specs.RecordLaws.{Whole, Stands, stands, step-record, records-step, record-sized}
-use Rattle.image.specs.Image.{laidOne, laid, Told, Fills, ofType}
+use Rattle.image.specs.RecordLaws.{Stands, stands, step-record, records-step, record-sized}
+use Rattle.image.specs.Image.{laidOne, laid, Told, ofType}
 use Rattle.image.specs.declared.Step.{Step}
 use Rattle.image.specs.declared.Step.the-variants.{End, Stump, Record}
 

@@ -2,15 +2,15 @@
 use mathlib.Core.Path.{_≡_, refl, sym, ap, _∙_}
 use mathlib.Core.List.{List, [], _∷_, map}
 use mathlib.Core.Logic.{⊎-elim}
-use Prim.Native.Nat.{ℕ, zero, suc, _+_, _-_, _≤_, _<_}
+use Prim.Native.Nat.{ℕ, zero, suc, _+_, _≤_, _<_}
 use native.Mathlib.Nat.{add-zero, le-refl}
 use native.Mathlib.Omega.{arith}
-use lib.ListN.{length, getD, drop, length-drop, drop-of-length-le}
+use lib.ListN.{length, drop, length-drop, drop-of-length-le}
 use lib.Seq.{drop-drop, getD-drop}
 use Rattle.spans.specs.Bytes.{part}
 use Rattle.image.specs.Header.{field}
 use Rattle.image.specs.Records.{Trailing, Split, stepAt, after, recordOf, firstThen, splitIn, records}
-use Rattle.image.specs.RecordLaws.{Whole, Stands, stands, less, step-end, step-short, step-cut, step-record}
+use Rattle.image.specs.RecordLaws.{Stands, stands, less, step-end, step-short, step-cut, step-record}
 use Rattle.image.specs.declared.Step.{Step}
 use Rattle.image.specs.declared.Step.the-variants.{End, Stump, Record}
 

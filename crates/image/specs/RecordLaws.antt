@@ -1,6 +1,6 @@
 -- Laws of what stands at a place of an area of records, and of the area as its records.
-use mathlib.Core.Path.{_≡_, refl, sym, ap, _∙_}
-use mathlib.Core.List.{List, [], _∷_, _++_}
+use mathlib.Core.Path.{_≡_, refl, ap, _∙_}
+use mathlib.Core.List.{List, [], _∷_}
 use Prim.Native.Nat.{ℕ, zero, suc, _+_, _-_, _≤_, _<_}
 use native.Mathlib.Nat.{le-refl}
 use native.Mathlib.Omega.{arith}
@@ -12,7 +12,7 @@ use lib.ListN.{length, getD, take, drop, length-drop}
 use lib.Seq.{take-all}
 use Rattle.spans.specs.Laws.{length-part}
 use Rattle.image.specs.Header.{field}
-use Rattle.image.specs.Records.{Trailing, Place, Split, digests, recordOf, recordAt, stepAt, after, firstThen, splitIn, records}
+use Rattle.image.specs.Records.{Trailing, Split, digests, recordOf, recordAt, stepAt, after, firstThen, splitIn, records}
 use Rattle.image.specs.declared.Step.{Step}
 use Rattle.image.specs.declared.Step.the-variants.{End, Stump, Record}
 

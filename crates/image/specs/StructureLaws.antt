@@ -2,8 +2,8 @@
 use mathlib.Core.Path.{_≡_, refl, sym, ap, _∙_}
 use mathlib.Core.List.{List, [], _∷_, _++_, append-nil}
 use mathlib.Core.Bool.{Bool, true, false}
-use mathlib.Core.Logic.{_⊎_, inl, inr, ⊎-elim}
-use Prim.Native.Nat.{ℕ, suc, _+_, _-_, _≤_, _<_}
+use mathlib.Core.Logic.{⊎-elim}
+use Prim.Native.Nat.{ℕ, suc, _+_, _≤_, _<_}
 use native.Mathlib.Omega.{arith}
 use borrow.Author.Tests.{eqb-true, eqb-false}
 use lib.Dec.{eqb}
@@ -13,13 +13,13 @@ use Rattle.spans.specs.Bytes.{part}
 use Rattle.spans.specs.Choice.{pick}
 use Rattle.image.specs.Header.{magicNumber, headerMagic, recordsSize, headerSize, bodySize, coveredSize, imageSize, recordsArea}
 use Rattle.image.specs.Records.{Trailing, Split, Place, records, digests}
-use Rattle.image.specs.Check.{sizes, head, oneDigest, filled, layoutOf, withSizes, structure}
+use Rattle.image.specs.Check.{head, oneDigest, filled, layoutOf, withSizes, structure}
 use Rattle.image.specs.Image.{laid, ofType, GoodHeader, Fills, OneDigest}
 use Rattle.image.specs.RecordLaws.{less}
-use Rattle.image.specs.LaidLaws.{Begins, begins, as-laid, Holds, Placed, placed}
+use Rattle.image.specs.LaidLaws.{Begins, begins, as-laid, Placed, placed}
 use Rattle.image.specs.CheckLaws.{sizes-small, sizes-above, sizes-good, head-short, head-other, head-known}
 use Rattle.image.specs.declared.Cause.{Cause}
-use Rattle.image.specs.declared.Cause.the-variants.{HeaderMagic, HeaderSizes, RecordsArea, DigestRecord, DigestDiffers}
+use Rattle.image.specs.declared.Cause.the-variants.{HeaderMagic, HeaderSizes, RecordsArea, DigestRecord}
 use Rattle.image.specs.declared.Header.{Header}
 use Rattle.image.specs.declared.Header.the-variants.{Bad, Good}
 use Rattle.image.specs.declared.Layout.{Layout}

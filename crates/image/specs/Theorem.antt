@@ -3,23 +3,22 @@ use mathlib.Core.Path.{_≡_, refl, sym, ap, _∙_}
 use mathlib.Core.List.{List, [], _∷_, _++_, append-assoc}
 use mathlib.Core.Bool.{Bool, true, false}
 use mathlib.Core.Logic.{⊎-elim}
-use Prim.Native.Nat.{ℕ, _+_, _≤_, _<_}
+use Prim.Native.Nat.{ℕ, _+_, _≤_}
 use native.Mathlib.Omega.{arith}
 use lib.ListN.{length, take, drop, take-append-drop, length-append, length-drop}
-use lib.Seq.{drop-append-le, take-append-le, length-take-le, take-add, drop-append-add, take-append-seam, drop-at, take-at}
+use lib.Seq.{drop-append-le, take-append-le, length-take-le, take-add, drop-at, take-at}
 use Rattle.spans.specs.Bytes.{part, same}
 use Rattle.spans.specs.Choice.{pick}
-use Rattle.spans.specs.Laws.{length-part}
-use Rattle.spans.specs.Same.{same-refl, same-equal}
+use Rattle.spans.specs.Laws.{length-part, same-refl, same-eq}
 use Rattle.sha256.specs.Fips.{sha256}
-use Rattle.image.specs.Header.{field, magicNumber, headerMagic, recordsSize, headerSize, bodySize, coveredSize, imageSize, recordsArea}
+use Rattle.image.specs.Header.{field, headerMagic, recordsSize, headerSize, bodySize, coveredSize, imageSize, recordsArea}
 use Rattle.image.specs.Records.{Trailing, Split, records}
 use Rattle.image.specs.Check.{head, structure, digestAt, check}
-use Rattle.image.specs.Image.{laid, Told, ofType, Image, GoodHeader, Fills, OneDigest, When}
+use Rattle.image.specs.Image.{laid, ofType, Image, GoodHeader, Fills, OneDigest, When}
 use Rattle.image.specs.LaidLaws.{as-laid}
 use Rattle.image.specs.RecordLaws.{less}
 use Rattle.image.specs.CheckLaws.{sizes-small, sizes-above, head-short, head-other, head-known, digest-same, digest-other}
-use Rattle.image.specs.StructureLaws.{Sizes, Heads, heads, Comes, Stands, comes, cut, structure-bad}
+use Rattle.image.specs.StructureLaws.{Heads, heads, Comes, Stands, comes, cut, structure-bad}
 use Rattle.image.specs.declared.Cause.{Cause}
 use Rattle.image.specs.declared.Cause.the-variants.{HeaderMagic, HeaderSizes, RecordsArea, DigestRecord, DigestDiffers}
 use Rattle.image.specs.declared.Header.{Header}
@@ -111,7 +110,7 @@ module _ (xs : List ℕ) where
     digest-of : (covered at : ℕ) → covered ≡ coveredSize xs → (rs : List Trailing) → Fills (recordsArea xs) rs → (d : Trailing) → OneDigest rs d → Stands xs at d
         → (t : Bool) → same (part xs at 32) (sha256 (take covered xs)) ≡ t → When xs (digestAt (Sound covered at) xs)
     digest-of covered at c rs f d o s true e =
-        let right : d .bytes ≡ sha256 (take (coveredSize xs) xs) = sym (s .bytes-are) ∙ (same-equal _ _ e ∙ ap (λ (n : ℕ). sha256 (take n xs)) c) in
+        let right : d .bytes ≡ sha256 (take (coveredSize xs) xs) = sym (s .bytes-are) ∙ (same-eq _ _ e ∙ ap (λ (n : ℕ). sha256 (take n xs)) c) in
         rw (digest-same xs covered at e) (When.image (is-image xs g rs f d o right))
     digest-of covered at c rs f d o s false e =
         rw (digest-other xs covered at e)
@@ -214,7 +213,7 @@ digest-is : (a b : List ℕ) → a ≡ b → pick (same a b) Accepted (Rejected 
 digest-is a b e = rw (e, same-refl b)
 
 digest-not : (a b : List ℕ) → (a ≡ b → ⊥) → (t : Bool) → same a b ≡ t → pick t Accepted (Rejected DigestDiffers) ≡ Rejected DigestDiffers
-digest-not a b n true e = absurd (n (same-equal a b e))
+digest-not a b n true e = absurd (n (same-eq a b e))
 digest-not a b n false e = refl
 
 -- An answer that is due is the check's.

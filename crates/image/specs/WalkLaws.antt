@@ -1,5 +1,5 @@
 -- The walk over the trailing records, as the code counts: how many are of type 1, and where the last of them stands.
-use mathlib.Core.Path.{_≡_, refl, sym, ap, _∙_}
+use mathlib.Core.Path.{_≡_, refl, sym, _∙_}
 use mathlib.Core.List.{List, [], _∷_}
 use Prim.Native.Nat.{ℕ, _+_, _<_, _≤_}
 use native.Mathlib.Omega.{arith}
@@ -9,9 +9,8 @@ use mathlib.Core.Bool.{Bool, true, false}
 use lib.Dec.{eqb}
 use Rattle.spans.specs.Choice.{pick}
 use Rattle.image.specs.Records.{Trailing, Split, Place, stepAt, after, firstThen, recordOf, records, digests}
-use Rattle.image.specs.RecordLaws.{Whole, whole-of, stump-of, records-step, record-sized, digests-one, digests-other}
+use Rattle.image.specs.RecordLaws.{whole-of, stump-of, records-step, record-sized, digests-one, digests-other}
 use Rattle.image.specs.Check.{oneDigest, filled, layoutOf}
-use Rattle.image.specs.declared.Step.{Step}
 use Rattle.image.specs.declared.Step.the-variants.{End, Stump, Record}
 use Rattle.image.specs.declared.Cause.the-variants.{RecordsArea, DigestRecord}
 use Rattle.image.specs.declared.Layout.{Layout}

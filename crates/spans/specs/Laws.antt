@@ -136,11 +136,6 @@ part-blank (suc n) zero (suc len) h = ap {B = List ℕ} (λ r. 255 ∷ r) (part-
 part-blank zero (suc at) len h = absurd (omega arith)
 part-blank (suc n) (suc at) len h = part-blank n at len (omega arith)
 
--- a part is cut in two
-pub part-join : (xs : List ℕ) (at a b : ℕ) → part xs at (a + b) ≡ part xs at a ++ part xs (at + a) b
-unfolding part
-part-join xs at a b = rw (take-add, drop-drop)
-
 -- a put that begins where the list does, and is as long, is all there is
 pub put-all : (xs ys : List ℕ) → length xs ≡ length ys → put xs zero ys ≡ ys
 unfolding put

@@ -8,4 +8,3 @@ pub mod Words
 pub mod WordLaws
 pub mod Table
 pub mod BitLaws
-pub mod Same

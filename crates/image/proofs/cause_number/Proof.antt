@@ -1,12 +1,8 @@
-use mathlib.Core.Path.{_≡_, sym, ap, _∙_}
+use mathlib.Core.Path.{sym, ap, _∙_}
 use Rattle.image.specs.Check.{causeOf}
 use borrow.Author.Needs.{needs}
 use Rattle.image.proofs.cause_number.Statement.{statement}
 use Rattle.image.proofs.cause_number.Tie as tie
-use Rattle.image.proofs.cause_number.Reads as reads
-use Rattle.image.proofs.cause_number.Lts as lts
-use Rattle.image.proofs.check.Reads as check-reads
-use Rattle.image.proofs.number.Reads as number-reads
 
 check-requires : tie.Need-check-requires
 check-requires c κs = search needs

@@ -1,13 +1,9 @@
-use mathlib.Core.Path.{_≡_, sym, ap, _∙_}
+use mathlib.Core.Path.{sym, _∙_}
 use Rattle.image.specs.Check.{check, digestAt}
 use Rattle.image.specs.StructureLaws.{sound-within}
 use borrow.Author.Needs.{needs}
 use Rattle.image.proofs.check.Statement.{statement}
 use Rattle.image.proofs.check.Tie as tie
-use Rattle.image.proofs.check.Reads as reads
-use Rattle.image.proofs.check.Lts as lts
-use Rattle.image.proofs.digest_at.Reads as digest-at-reads
-use Rattle.image.proofs.structure.Reads as structure-reads
 
 structure-requires : tie.Need-structure-requires
 structure-requires c κs = search needs

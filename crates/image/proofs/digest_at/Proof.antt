@@ -1,4 +1,4 @@
-use mathlib.Core.Path.{_≡_, sym, ap, _∙_}
+use mathlib.Core.Path.{sym, ap, _∙_}
 use native.Mathlib.Nat.{sub-zero}
 use lib.ListN.{length, take}
 use Rattle.sha256.specs.Laws.{length-sha256}
@@ -6,10 +6,6 @@ use Rattle.image.specs.CheckLaws.{digest-same, digest-other}
 use borrow.Author.Needs.{needs}
 use Rattle.image.proofs.digest_at.Statement.{statement}
 use Rattle.image.proofs.digest_at.Tie as tie
-use Rattle.image.proofs.digest_at.Reads as reads
-use Rattle.image.proofs.digest_at.Lts as lts
-use Rattle.sha256.proofs.digest.Reads as digest-reads
-use Rattle.spans.proofs.stands.Reads as stands-reads
 
 sub-digest : tie.Need-sub-digest
 sub-digest c = search needs

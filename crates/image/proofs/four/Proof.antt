@@ -3,9 +3,6 @@ use Rattle.image.specs.HeaderLaws.{field-four}
 use borrow.Author.Needs.{needs}
 use Rattle.image.proofs.four.Statement.{statement}
 use Rattle.image.proofs.four.Tie as tie
-use Rattle.image.proofs.four.Reads as reads
-use Rattle.image.proofs.four.Lts as lts
-use Rattle.image.proofs.two.Reads as two-reads
 
 two-requires : tie.Need-two-requires
 two-requires c κs = search needs

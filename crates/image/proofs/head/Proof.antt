@@ -5,10 +5,6 @@ use Rattle.image.specs.CheckLaws.{head-short, head-other, head-known}
 use borrow.Author.Needs.{needs}
 use Rattle.image.proofs.head.Statement.{statement}
 use Rattle.image.proofs.head.Tie as tie
-use Rattle.image.proofs.head.Reads as reads
-use Rattle.image.proofs.head.Lts as lts
-use Rattle.image.proofs.four.Reads as four-reads
-use Rattle.image.proofs.sizes.Reads as sizes-reads
 
 returns : tie.Need-returns
 returns c = sym (head-short (c .before .before .args .image .now) (omega arith))

@@ -7,9 +7,6 @@ use Rattle.image.specs.WalkLaws.{ofNumber, layout-walked}
 use borrow.Author.Needs.{needs}
 use Rattle.image.proofs.layout_of.Statement.{statement}
 use Rattle.image.proofs.layout_of.Tie as tie
-use Rattle.image.proofs.layout_of.Reads as reads
-use Rattle.image.proofs.layout_of.Lts as lts
-use Rattle.image.proofs.walk.Reads as walk-reads
 
 walk-requires : tie.Need-walk-requires
 walk-requires c κs = search needs

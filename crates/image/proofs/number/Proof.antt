@@ -2,8 +2,6 @@ use Rattle.image.specs.Check.{numberOf}
 use borrow.Author.Needs.{needs}
 use Rattle.image.proofs.number.Statement.{statement}
 use Rattle.image.proofs.number.Tie as tie
-use Rattle.image.proofs.number.Reads as reads
-use Rattle.image.proofs.number.Lts as lts
 
 enum-told : tie.Need-enum-told
 enum-told c = search needs

@@ -1,10 +1,7 @@
 use borrow.Author.Tests.{eq-eqb, ne-eqb}
 use Rattle.image.specs.WalkLaws.{placeOrCause}
-use borrow.Author.Needs.{needs}
 use Rattle.image.proofs.only_digest.Statement.{statement}
 use Rattle.image.proofs.only_digest.Tie as tie
-use Rattle.image.proofs.only_digest.Reads as reads
-use Rattle.image.proofs.only_digest.Lts as lts
 
 returns : tie.Need-returns
 unfolding placeOrCause

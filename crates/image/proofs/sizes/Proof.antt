@@ -5,10 +5,6 @@ use Rattle.image.specs.CheckLaws.{sizes-small, sizes-above, sizes-good}
 use borrow.Author.Needs.{needs}
 use Rattle.image.proofs.sizes.Statement.{statement}
 use Rattle.image.proofs.sizes.Tie as tie
-use Rattle.image.proofs.sizes.Reads as reads
-use Rattle.image.proofs.sizes.Lts as lts
-use Rattle.image.proofs.four.Reads as four-reads
-use Rattle.image.proofs.two.Reads as two-reads
 
 two-requires : tie.Need-two-requires
 two-requires c κs = search needs

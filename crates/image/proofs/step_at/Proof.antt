@@ -4,9 +4,6 @@ use Rattle.image.specs.RecordLaws.{step-end, step-short, step-cut, step-
 use borrow.Author.Needs.{needs}
 use Rattle.image.proofs.step_at.Statement.{statement}
 use Rattle.image.proofs.step_at.Tie as tie
-use Rattle.image.proofs.step_at.Reads as reads
-use Rattle.image.proofs.step_at.Lts as lts
-use Rattle.image.proofs.two.Reads as two-reads
 
 returns : tie.Need-returns
 returns c = let a = c .before .before .args in

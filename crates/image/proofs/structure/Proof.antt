@@ -1,6 +1,6 @@
-use mathlib.Core.Path.{_≡_, sym, ap, _∙_}
+use mathlib.Core.Path.{_≡_, sym, _∙_}
 use native.Mathlib.Omega.{arith}
-use Prim.Native.Nat.{ℕ, _+_}
+use Prim.Native.Nat.{_+_}
 use lib.ListN.{length}
 use Rattle.spans.specs.Bytes.{part}
 use Rattle.spans.specs.Laws.{length-part}
@@ -10,10 +10,6 @@ use Rattle.image.specs.StructureLaws.{Sizes, sizes-of, structure-bad, st
 use borrow.Author.Needs.{needs}
 use Rattle.image.proofs.structure.Statement.{statement}
 use Rattle.image.proofs.structure.Tie as tie
-use Rattle.image.proofs.structure.Reads as reads
-use Rattle.image.proofs.structure.Lts as lts
-use Rattle.image.proofs.head.Reads as head-reads
-use Rattle.image.proofs.layout_of.Reads as layout-of-reads
 
 -- the header was good, and these are its sizes
 sized : (c : tie.After-known-told2)

@@ -3,9 +3,6 @@ use Rattle.image.specs.HeaderLaws.{field-two}
 use borrow.Author.Needs.{needs}
 use Rattle.image.proofs.two.Statement.{statement}
 use Rattle.image.proofs.two.Tie as tie
-use Rattle.image.proofs.two.Reads as reads
-use Rattle.image.proofs.two.Lts as lts
-use Rattle.image.proofs.wide.Reads as wide-reads
 
 shared-slice-read-wide : tie.Need-shared-slice-read-wide
 shared-slice-read-wide c = search needs
