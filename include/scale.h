@@ -142,25 +142,26 @@ scale_answer scale_full_start(size_t unit, size_t sector, size_t sectors,
 
 /*
  * Mark slot 1: its image is exchanged into slot 0 at the next start, for good if `permanent`, else on trial. Whether there is an image
- * is asked at that start, not here. Takes 16 / unit operations, one more if `permanent`.
+ * is asked at that start, not here. Takes 16 / unit operations, one more if `permanent`. Slot 0 and scratch are only read.
  *
  * Refusals: 1, 2, 6, 5, asked in this order, all with count 0 and nothing written; 8.
  */
 scale_marked scale_mark(size_t unit, size_t sector, size_t sectors,
-                        uint8_t *slot0, size_t slot0_length,
+                        const uint8_t *slot0, size_t slot0_length,
                         uint8_t *slot1, size_t slot1_length,
-                        uint8_t *scratch, size_t scratch_length,
+                        const uint8_t *scratch, size_t scratch_length,
                         bool permanent);
 
 /*
- * Confirm slot 0: the firmware on trial stays. Call it from that firmware once it is content with itself. Takes 1 operation.
+ * Confirm slot 0: the firmware on trial stays. Call it from that firmware once it is content with itself. Takes 1 operation. Slot 1 and
+ * scratch are only read.
  *
  * Refusals: 1, 2, 6, 7, asked in this order, all with count 0 and nothing written; 8.
  */
 scale_marked scale_confirm(size_t unit, size_t sector, size_t sectors,
                            uint8_t *slot0, size_t slot0_length,
-                           uint8_t *slot1, size_t slot1_length,
-                           uint8_t *scratch, size_t scratch_length);
+                           const uint8_t *slot1, size_t slot1_length,
+                           const uint8_t *scratch, size_t scratch_length);
 
 #ifdef __cplusplus
 }

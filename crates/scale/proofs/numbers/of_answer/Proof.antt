@@ -1,0 +1,17 @@
+use Rattle.scale.specs.Boundary.{answerNumbers}
+use borrow.Author.Needs.{needs}
+use Rattle.scale.proofs.numbers.of_answer.Statement.{statement}
+use Rattle.scale.proofs.numbers.of_answer.Tie as tie
+
+done-requires : tie.Need-done-requires
+done-requires c κs = search needs
+
+with-outcome-requires : tie.Need-with-outcome-requires
+with-outcome-requires c κs = search needs
+
+returns : tie.Need-returns
+unfolding answerNumbers
+returns c = cc
+
+pub of-answer-spec : {M : Type 1} → statement M
+of-answer-spec = tie.close (tie.spec done-requires with-outcome-requires returns)

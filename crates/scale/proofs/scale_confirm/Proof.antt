@@ -1,0 +1,23 @@
+use mathlib.Core.Path.{ap, _∙_}
+use Rattle.loader.specs.Marking.{MarkResult}
+use Rattle.scale.specs.Boundary.{markedNumbers}
+use borrow.Author.Needs.{needs}
+use Rattle.scale.proofs.scale_confirm.Statement.{statement}
+use Rattle.scale.proofs.scale_confirm.Tie as tie
+
+confirm-requires : tie.Need-confirm-requires
+confirm-requires c κs = search needs
+
+of-marked-requires : tie.Need-of-marked-requires
+of-marked-requires c κs = search needs
+
+same-length : tie.Need-same-length
+same-length c = search needs
+
+returns : tie.Need-returns
+returns c =
+    let is = c .before .before .before .confirm .ensures in
+    (c .of-marked .ensures ∙ ap (λ (x : MarkResult). markedNumbers (x .answer)) is, ap (λ (x : MarkResult). x .flash) is)
+
+pub scale-confirm-spec : {M : Type 1} → statement M
+scale-confirm-spec = tie.close (tie.spec confirm-requires of-marked-requires same-length returns)
