@@ -1,11 +1,11 @@
 -- The lists of operations over the three areas, as code goes through them.
 use mathlib.Core.Path.{_≡_, refl, sym, ap, _∙_}
 use mathlib.Core.List.{List, [], _∷_, _++_}
-use mathlib.Core.Bool.{Bool, true, false}
+use mathlib.Core.Bool.{Bool}
 use Prim.Native.Nat.{ℕ, suc, _+_, _*_, _-_, _/_, _%_, _≤_, _<_}
 use native.Mathlib.Numerals.{add-one}
 use native.Mathlib.Omega.{arith}
-use lib.ListN.{length, drop, drop-of-length-le}
+use lib.ListN.{drop, drop-of-length-le}
 use Rattle.flash.specs.declared.Geometry.{Geometry}
 use Rattle.flash.specs.declared.Offset.{Offset}
 use Rattle.flash.specs.declared.Run.{Run}
@@ -13,7 +13,7 @@ use Rattle.flash.specs.Geometry.{sectorNo}
 use Rattle.flash.specs.Build.{slot0, slot1, scratch, Move, trailerSector}
 use Rattle.flash.specs.Base.{allMoves, base, build}
 use Rattle.flash.specs.BaseLaws.{length-moves}
-use Rattle.flash.specs.Operations.{Op, State, Local, local, in-area, back, eraseIn, step, steps}
+use Rattle.flash.specs.Operations.{Op, State, Local, local, back, eraseIn, step, steps}
 use Rattle.flash.specs.OperationLaws.{steps-append}
 use Rattle.trailer.specs.Trailer.{doneAt}
 use Rattle.plan.specs.Lists.{clear, mark, okOps, progress, magicOps, begin, settle, moveOps, dataOps, erases, clearOut}

@@ -13,12 +13,12 @@ use Rattle.flash.specs.declared.Sector.{Sector}
 use Rattle.flash.specs.declared.Offset.{Offset}
 use Rattle.flash.specs.declared.Unit.{Unit}
 use Rattle.flash.specs.Geometry.{sectorNo, startOf, unitAt, after}
-use Rattle.flash.specs.Build.{Area, slot0, slot1, scratch, Build, trailerSector}
+use Rattle.flash.specs.Build.{Area, slot0, scratch, trailerSector}
 use Rattle.flash.specs.Base.{base, build}
 use Rattle.flash.specs.Operations.{Op, State, Local, in-area, back, eraseIn, writeIn, writeAllIn, step, steps}
 use Rattle.flash.specs.OperationLaws.{steps-append}
-use Rattle.trailer.specs.Trailer.{magicAt, okAt, doneAt, markAt, magicBytes, markBytes}
-use Rattle.plan.specs.Lists.{mark, progress, clear, magicOps, okOps, begin, erases}
+use Rattle.trailer.specs.Trailer.{magicAt, okAt, markAt, magicBytes, markBytes}
+use Rattle.plan.specs.Lists.{progress, clear, magicOps, okOps, begin, erases}
 use Rattle.carry.specs.Steps.{back-own, back-back, in-back, steps-writes}
 
 -- a mark of value v at an offset into the trailer sector i

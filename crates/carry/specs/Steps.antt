@@ -1,8 +1,8 @@
 -- What runs of operations come to in the one area that they change.
 use mathlib.Core.Path.{_≡_, refl, sym, ap, ap₂, _∙_}
-use mathlib.Core.List.{List, [], _∷_, _++_}
-use mathlib.Core.Bool.{Bool, true, false, false≢true}
-use Prim.Native.Nat.{ℕ, zero, suc, _+_, _*_, _/_, _≤_}
+use mathlib.Core.List.{List, [], _∷_}
+use mathlib.Core.Bool.{false, false≢true}
+use Prim.Native.Nat.{ℕ, zero, suc, _+_, _*_}
 use native.Mathlib.Omega.{arith}
 use lib.ListN.{take, drop}
 use lib.Seq.{take-take, take-nil, drop-nil, drop-drop}
@@ -10,10 +10,9 @@ use Rattle.spans.specs.Bytes.{part}
 use Rattle.flash.specs.declared.Geometry.{Geometry}
 use Rattle.flash.specs.declared.Sector.{Sector}
 use Rattle.flash.specs.declared.Unit.{Unit}
-use Rattle.flash.specs.declared.Run.{Run}
 use Rattle.flash.specs.Geometry.{placeOf, firstUnit, nextUnit, unitsPerSector}
-use Rattle.flash.specs.Build.{Area, slot0, slot1, scratch, sameArea, Move, Build, geometry, Flash, area}
-use Rattle.flash.specs.Operations.{Op, erase, State, Local, local, in-area, back, eraseIn, writeIn, writeAllIn, step, steps}
+use Rattle.flash.specs.Build.{Area, slot0, slot1, scratch, sameArea, Move, Build, geometry, area}
+use Rattle.flash.specs.Operations.{State, Local, in-area, back, eraseIn, writeIn, writeAllIn, step, steps}
 use Rattle.plan.specs.Lists.{writes, copies, moveOps}
 
 -- ---- an area of a state, and the state with another in its place

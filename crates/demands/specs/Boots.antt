@@ -1,6 +1,6 @@
 -- After an exchange that ran to its end, the power-up boots the image that was checked: with allowance enough, refusals 3 and 4 cannot
 -- follow test, permanent or revert, whether slot 0 is checked or not.
-use mathlib.Core.Path.{_≡_, refl, sym, ap, ap₂, _∙_}
+use mathlib.Core.Path.{_≡_, refl, ap, _∙_}
 use mathlib.Core.List.{List}
 use mathlib.Core.Bool.{Bool, true, false}
 use Prim.Native.Nat.{ℕ, _+_, _*_, _-_, _/_, _≤_}
@@ -10,7 +10,6 @@ use lib.Dec.{ltb, eqb}
 use Rattle.spans.specs.Choice.{pick}
 use Rattle.spans.specs.Laws.{pieces}
 use Rattle.flash.specs.declared.Geometry.{Geometry}
-use Rattle.flash.specs.declared.End.{End}
 use Rattle.flash.specs.Geometry.{sectorNo}
 use Rattle.flash.specs.Build.{Flash}
 use Rattle.flash.specs.Base.{base, build}

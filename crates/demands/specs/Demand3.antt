@@ -3,7 +3,7 @@
 -- 3m(s/w + 2) + 8 + 2p + 32/w leaves all three areas byte for byte as one that was never cut, and the data sectors of the two slots
 -- have changed places whole.
 use mathlib.Core.Path.{_≡_, refl, sym, ap, _∙_}
-use mathlib.Core.List.{List, []}
+use mathlib.Core.List.{[]}
 use mathlib.Core.Bool.{Bool, true, false}
 use Prim.Native.Nat.{ℕ, _+_, _*_, _-_, _/_, _≤_}
 use Rattle.spans.specs.Choice.{pick}

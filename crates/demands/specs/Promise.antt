@@ -1,5 +1,5 @@
 -- What `loader::full_start` and `loader::power_up` promise, and that it determines the answer and all three areas.
-use mathlib.Core.Path.{_≡_, refl, sym, ap, _∙_}
+use mathlib.Core.Path.{_≡_, sym, ap, _∙_}
 use mathlib.Core.Bool.{Bool}
 use Prim.Native.Nat.{ℕ}
 use Rattle.flash.specs.declared.Geometry.{Geometry}
@@ -7,7 +7,7 @@ use Rattle.flash.specs.Build.{Flash}
 use Rattle.loader.specs.declared.Answer.{Answer}
 use Rattle.loader.specs.declared.Marked.{Marked}
 use Rattle.loader.specs.PowerUp.{Result, fullStart}
-use Rattle.loader.specs.Marking.{MarkResult, marking, confirming}
+use Rattle.loader.specs.Marking.{MarkResult}
 use Rattle.loader.specs.Results.{result, markResult}
 
 -- the function was called with the areas f, and left the answer a and the areas f' (its `ensures`, word for word)

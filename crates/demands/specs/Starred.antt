@@ -1,8 +1,7 @@
 -- The starred edges of document 01: a single table under one claim about the definitions.
-use mathlib.Core.Path.{_≡_, ap}
+use mathlib.Core.Path.{_≡_}
 use mathlib.Core.List.{List, [], _∷_, _++_, map}
 use Rattle.spans.specs.Table.{Row, row, Holds, no-more, and, holds-append}
-use Rattle.image.specs.declared.Layout.{Layout}
 use Rattle.image.specs.Check.{structure}
 use Rattle.image.specs.Edges as image
 use Rattle.recovery.specs.Edges as recovery

@@ -1,10 +1,9 @@
 -- Document 01, "The flash": the three areas and their sectors; and what one build of the loader differs in from another.
 use mathlib.Core.List.{List, [], _∷_}
-use mathlib.Core.Bool.{Bool, true, false, _||_}
+use mathlib.Core.Bool.{Bool, true, false}
 use Prim.Native.Nat.{ℕ, suc, _+_, _*_, _-_, _%_}
 use lib.ListN.{length}
 use lib.Dec.{eqb, leb}
-use Rattle.spans.specs.Bytes.{put}
 use Rattle.spans.specs.Choice.{every}
 use Rattle.flash.specs.declared.Geometry.{Geometry}
 use Rattle.flash.specs.declared.Sector.{Sector}

@@ -1,9 +1,7 @@
 -- An erase under an allowance, by how the run stands.
-use mathlib.Core.Path.{_≡_, refl, ap}
-use mathlib.Core.Bool.{false}
+use mathlib.Core.Path.{_≡_}
 use mathlib.Core.List.{List}
 use Prim.Native.Nat.{ℕ, _-_}
-use lib.Dec.{eqb}
 use borrow.Author.Tests.{ne-eqb}
 use Rattle.spans.specs.Bytes.{put, blank}
 use Rattle.flash.specs.declared.Geometry.{Geometry}

@@ -1,6 +1,6 @@
 -- Document 01, "Harm of a power failure".
 use mathlib.Core.Path.{_≡_}
-use mathlib.Core.List.{List, [], _∷_}
+use mathlib.Core.List.{List, _∷_}
 use Prim.Native.Nat.{ℕ, _*_, _<_}
 use lib.ListN.{length}
 use Rattle.flash.specs.declared.Sector.{Sector}

@@ -1,7 +1,7 @@
 -- Document 01, "The flash": the two operations, and a list of them under an allowance.
 use mathlib.Core.List.{List, [], _∷_}
-use mathlib.Core.Bool.{Bool, true, false}
-use Prim.Native.Nat.{ℕ, zero, suc, _*_, _-_}
+use mathlib.Core.Bool.{Bool, true}
+use Prim.Native.Nat.{ℕ, zero, suc, _-_}
 use lib.ListN.{take, drop}
 use lib.Dec.{eqb}
 use Rattle.spans.specs.Bytes.{part, put, blank, same}
@@ -13,7 +13,7 @@ use Rattle.flash.specs.declared.Run.{Run}
 use Rattle.flash.specs.declared.End.{End}
 use Rattle.flash.specs.declared.End.the-variants.{Going, Stopped, Unerased}
 use Rattle.flash.specs.Geometry.{startOf, placeOf, nextUnit}
-use Rattle.flash.specs.Build.{Area, slot0, slot1, scratch, Build, geometry, Flash, area, with-area}
+use Rattle.flash.specs.Build.{Area, Build, geometry, Flash, area, with-area}
 
 -- "An operation is one of two: erase one sector (all bytes 0xff), or write one unit." What is written is given, or is another unit's.
 pub data Op : Type 0 where

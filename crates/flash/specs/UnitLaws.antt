@@ -7,11 +7,11 @@ use native.Mathlib.Nat.{zero-mul, suc-min-suc, mul-le-mul-right}
 use native.Mathlib.Omega.{arith}
 use lib.ListN.{length, take, drop, length-take, drop-of-length-le}
 use lib.Seq.{take-add, take-all, take-nil, take-take}
-use lib.Dec.{ltb, leb, leb·zero, leb·suc-zero, leb·suc-suc, eqb·suc-zero}
-use borrow.Author.Tests.{ltb-true, ltb-false, le-ltb}
-use Rattle.spans.specs.Bytes.{part, put, blank, same}
+use lib.Dec.{ltb, leb·zero, leb·suc-zero, leb·suc-suc, eqb·suc-zero}
+use borrow.Author.Tests.{ltb-true, ltb-false}
+use Rattle.spans.specs.Bytes.{part, put, blank}
 use Rattle.spans.specs.Choice.{pick}
-use Rattle.spans.specs.Laws.{put-join, put-nil, part-put-after, same-eq, same-refl, blank-within}
+use Rattle.spans.specs.Laws.{put-join, put-nil, part-put-after, same-refl, blank-within}
 use Rattle.flash.specs.declared.Geometry.{Geometry}
 use Rattle.flash.specs.declared.Unit.{Unit}
 use Rattle.flash.specs.declared.Run.{Run}

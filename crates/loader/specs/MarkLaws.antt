@@ -8,9 +8,9 @@ use lib.ListN.{length, length-append}
 use Rattle.spans.specs.Choice.{pick}
 use Rattle.flash.specs.declared.Geometry.{Geometry}
 use Rattle.flash.specs.declared.Run.{Run}
-use Rattle.flash.specs.Build.{Area, slot0, slot1, Flash, trailerSector}
+use Rattle.flash.specs.Build.{slot0, slot1, Flash, trailerSector}
 use Rattle.flash.specs.Base.{base, build}
-use Rattle.flash.specs.Operations.{Op, State, Local, local, going, in-area, back, start, steps}
+use Rattle.flash.specs.Operations.{Op, State, local, going, back, start, steps}
 use Rattle.flash.specs.OperationLaws.{steps-left}
 use Rattle.plan.specs.Lists.{okOps, magicOps}
 use Rattle.plan.specs.Lengths.{one-if, length-ok, length-magic}

@@ -1,14 +1,14 @@
 -- Document 01, "Marking and confirming".
 use mathlib.Core.List.{List, _++_}
-use mathlib.Core.Bool.{Bool, true, false, _&&_}
-use Prim.Native.Nat.{ℕ, _-_}
+use mathlib.Core.Bool.{Bool, true, _&&_}
+use Prim.Native.Nat.{_-_}
 use lib.ListN.{length}
 use Rattle.spans.specs.Choice.{pick}
 use Rattle.flash.specs.declared.Geometry.{Geometry}
 use Rattle.flash.specs.declared.End.{End}
 use Rattle.flash.specs.Build.{slot0, slot1, Flash, valid}
 use Rattle.flash.specs.Base.{build}
-use Rattle.flash.specs.Operations.{Op, State, start, steps}
+use Rattle.flash.specs.Operations.{Op, start, steps}
 use Rattle.trailer.specs.Trailer.{trailer, okAt, doneAt, magicOf, isGood, noMagic, markOf, isUnset, hasValue}
 use Rattle.plan.specs.declared.Course.{Course}
 use Rattle.plan.specs.declared.Course.the-variants.{Damage, Settle, Resume, Test, Permanent, Revert, Clear, Nothing}

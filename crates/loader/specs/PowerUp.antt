@@ -1,6 +1,6 @@
 -- Document 01, "What a power-up does": D, the answer, the plain start and the full start.
 use mathlib.Core.List.{List}
-use mathlib.Core.Bool.{Bool, true, false}
+use mathlib.Core.Bool.{Bool, false}
 use Prim.Native.Nat.{ℕ, _*_, _-_}
 use lib.ListN.{take}
 use Rattle.spans.specs.Choice.{pick}

@@ -1,28 +1,24 @@
 -- An answer with what the areas then hold, as the promises pair them.
-use mathlib.Core.Path.{_≡_, refl, sym, ap, _∙_}
+use mathlib.Core.Path.{_≡_, refl, _∙_}
 use mathlib.Core.List.{List, []}
 use mathlib.Core.Bool.{Bool, true, false}
 use Prim.Native.Nat.{ℕ, _-_}
-use lib.ListN.{length}
-use Rattle.spans.specs.Choice.{pick}
 use Rattle.flash.specs.declared.Geometry.{Geometry}
 use Rattle.flash.specs.declared.Run.{Run}
 use Rattle.flash.specs.declared.End.{End}
-use Rattle.flash.specs.Build.{Flash, fits, valid}
-use Rattle.flash.specs.Base.{build}
-use Rattle.image.specs.Check.{accepted}
+use Rattle.flash.specs.Build.{Flash}
 use Rattle.plan.specs.declared.Course.{Course}
 use Rattle.plan.specs.declared.Course.the-variants.{Damage, Settle, Resume, Test, Permanent, Revert, Clear, Nothing}
 use Rattle.plan.specs.declared.Done.{Done}
 use Rattle.plan.specs.Asked.{flashOf}
-use Rattle.plan.specs.Decision.{decide, doneOf, foundOf}
+use Rattle.plan.specs.Decision.{doneOf, foundOf}
 use Rattle.carry.specs.Areas.{state}
 use Rattle.loader.specs.declared.Refusal.{Refusal}
 use Rattle.loader.specs.declared.Outcome.{Outcome}
 use Rattle.loader.specs.declared.Ending.{Ending}
 use Rattle.loader.specs.declared.Answer.{Answer}
 use Rattle.loader.specs.declared.Marked.{Marked}
-use Rattle.loader.specs.PowerUp.{Result, bootOf, ended, carried, answered, refused, onCourse, fullStart}
+use Rattle.loader.specs.PowerUp.{Result, bootOf, ended, carried, answered, refused, onCourse}
 use Rattle.loader.specs.Marking.{MarkResult, refusedMark}
 
 abbrev pub result : Answer → Flash → Result

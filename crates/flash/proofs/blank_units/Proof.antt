@@ -10,11 +10,6 @@ use Rattle.flash.specs.UnitLaws.{blank-run-all, blank-run-le}
 use borrow.Author.Needs.{needs}
 use Rattle.flash.proofs.blank_units.Statement.{statement}
 use Rattle.flash.proofs.blank_units.Tie as tie
-use Rattle.flash.proofs.blank_units.Reads as reads
-use Rattle.flash.proofs.blank_units.Lts as lts
-use Rattle.flash.proofs.count_blank.Reads as count-blank-reads
-use Rattle.flash.proofs.place_of.Reads as place-of-reads
-use Rattle.spans.proofs.all_blank.Reads as all-blank-reads
 
 place-of-requires : tie.Need-place-of-requires
 place-of-requires c κs = search needs

@@ -5,13 +5,6 @@ use Rattle.flash.specs.UnitLaws.{copied}
 use borrow.Author.Needs.{needs}
 use Rattle.flash.proofs.copy_units.Statement.{statement}
 use Rattle.flash.proofs.copy_units.Tie as tie
-use Rattle.flash.proofs.copy_units.Reads as reads
-use Rattle.flash.proofs.copy_units.Lts as lts
-use Rattle.flash.proofs.blank_units.Reads as blank-units-reads
-use Rattle.flash.proofs.place_of.Reads as place-of-reads
-use Rattle.flash.proofs.reach.Reads as reach-reads
-use Rattle.flash.proofs.settled.Reads as settled-reads
-use Rattle.spans.proofs.copy.Reads as copy-reads
 
 reach-requires : tie.Need-reach-requires
 reach-requires c κs = search needs

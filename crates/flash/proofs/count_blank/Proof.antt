@@ -11,9 +11,6 @@ use Rattle.flash.specs.UnitLaws.{blankRun}
 use borrow.Author.Needs.{needs}
 use Rattle.flash.proofs.count_blank.Statement.{statement}
 use Rattle.flash.proofs.count_blank.Tie as tie
-use Rattle.flash.proofs.count_blank.Reads as reads
-use Rattle.flash.proofs.count_blank.Lts as lts
-use Rattle.flash.proofs.is_erased.Reads as is-erased-reads
 
 abbrev Inv-loop : tie.InvT-loop
 Inv-loop g area u n k₀ k = (k ≤ n) × (blankRun g u n area ≡ k + blankRun g (unitNo (u .0 + k)) (n - k) area)

@@ -3,10 +3,6 @@ use Rattle.flash.specs.EraseLaws.{erase-late, erase-done, erase-stopped,
 use borrow.Author.Needs.{needs}
 use Rattle.flash.proofs.erase.Statement.{statement}
 use Rattle.flash.proofs.erase.Tie as tie
-use Rattle.flash.proofs.erase.Reads as reads
-use Rattle.flash.proofs.erase.Lts as lts
-use Rattle.flash.proofs.start_of.Reads as start-of-reads
-use Rattle.spans.proofs.fill.Reads as fill-reads
 
 enum-told : tie.Need-enum-told
 enum-told c = search needs

@@ -4,8 +4,6 @@ use native.Mathlib.Omega.{arith}
 use borrow.Author.Needs.{needs}
 use Rattle.flash.proofs.first_unit.Statement.{statement}
 use Rattle.flash.proofs.first_unit.Tie as tie
-use Rattle.flash.proofs.first_unit.Reads as reads
-use Rattle.flash.proofs.first_unit.Lts as lts
 
 div-t3 : tie.Need-div-t3
 div-t3 c = search needs

@@ -5,10 +5,6 @@ use Rattle.flash.specs.Operations.{erased}
 use borrow.Author.Needs.{needs}
 use Rattle.flash.proofs.is_erased.Statement.{statement}
 use Rattle.flash.proofs.is_erased.Tie as tie
-use Rattle.flash.proofs.is_erased.Reads as reads
-use Rattle.flash.proofs.is_erased.Lts as lts
-use Rattle.flash.proofs.place_of.Reads as place-of-reads
-use Rattle.spans.proofs.all_blank.Reads as all-blank-reads
 
 place-of-requires : tie.Need-place-of-requires
 place-of-requires c κs = search needs

@@ -7,8 +7,6 @@ use Rattle.flash.specs.Taken.{lengthsAsked, and-true}
 use borrow.Author.Needs.{needs}
 use Rattle.flash.proofs.lengths_taken.Statement.{statement}
 use Rattle.flash.proofs.lengths_taken.Tie as tie
-use Rattle.flash.proofs.lengths_taken.Reads as reads
-use Rattle.flash.proofs.lengths_taken.Lts as lts
 
 mul-slot : tie.Need-mul-slot
 mul-slot c = omega (arith, mul-le-mul {n₁ = c .before .args .g .sectors} {m₁ = c .before .args .g .sector} {n₂ = 128} {m₂ = 65536} (omega arith) (omega arith))

@@ -3,8 +3,6 @@ use native.Mathlib.Omega.{arith}
 use borrow.Author.Needs.{needs}
 use Rattle.flash.proofs.place_of.Statement.{statement}
 use Rattle.flash.proofs.place_of.Tie as tie
-use Rattle.flash.proofs.place_of.Reads as reads
-use Rattle.flash.proofs.place_of.Lts as lts
 
 mul-t3 : tie.Need-mul-t3
 mul-t3 c = omega (arith, mul-le-mul {n₁ = c .before .before .args .u .0} {m₁ = c .before .before .args .g .unit} {n₂ = 8388608} {m₂ = 8} (omega arith) (omega arith))

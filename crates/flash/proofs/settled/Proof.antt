@@ -3,8 +3,6 @@ use borrow.Author.Tests.{lt-ltb, le-ltb}
 use borrow.Author.Needs.{needs}
 use Rattle.flash.proofs.settled.Statement.{statement}
 use Rattle.flash.proofs.settled.Tie as tie
-use Rattle.flash.proofs.settled.Reads as reads
-use Rattle.flash.proofs.settled.Lts as lts
 
 sub-rest : tie.Need-sub-rest
 sub-rest c = search needs

@@ -5,8 +5,6 @@ use Rattle.flash.specs.Taken.{sizesAsked, and-true}
 use borrow.Author.Needs.{needs}
 use Rattle.flash.proofs.sizes_taken.Statement.{statement}
 use Rattle.flash.proofs.sizes_taken.Tie as tie
-use Rattle.flash.proofs.sizes_taken.Reads as reads
-use Rattle.flash.proofs.sizes_taken.Lts as lts
 
 rem-if1 : tie.Need-rem-if1
 rem-if1 c = search needs

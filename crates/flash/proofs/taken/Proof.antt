@@ -5,11 +5,6 @@ use Rattle.flash.specs.Taken.{unitAsked, sizesAsked, in-parts, unit-boun
 use borrow.Author.Needs.{needs}
 use Rattle.flash.proofs.taken.Statement.{statement}
 use Rattle.flash.proofs.taken.Tie as tie
-use Rattle.flash.proofs.taken.Reads as reads
-use Rattle.flash.proofs.taken.Lts as lts
-use Rattle.flash.proofs.lengths_taken.Reads as lengths-taken-reads
-use Rattle.flash.proofs.sizes_taken.Reads as sizes-taken-reads
-use Rattle.flash.proofs.unit_taken.Reads as unit-taken-reads
 
 unit-taken-requires : tie.Need-unit-taken-requires
 unit-taken-requires c κs = search needs

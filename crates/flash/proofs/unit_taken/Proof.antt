@@ -1,10 +1,7 @@
 use borrow.Author.Tests.{eq-eqb, ne-eqb}
 use Rattle.flash.specs.Taken.{unitAsked}
-use borrow.Author.Needs.{needs}
 use Rattle.flash.proofs.unit_taken.Statement.{statement}
 use Rattle.flash.proofs.unit_taken.Tie as tie
-use Rattle.flash.proofs.unit_taken.Reads as reads
-use Rattle.flash.proofs.unit_taken.Lts as lts
 
 returns : tie.Need-returns
 unfolding unitAsked

@@ -9,9 +9,6 @@ use Rattle.flash.specs.UnitLaws.{halted-writes, stopped-halts, unerased-
 use borrow.Author.Needs.{needs}
 use Rattle.flash.proofs.write_units.Statement.{statement}
 use Rattle.flash.proofs.write_units.Tie as tie
-use Rattle.flash.proofs.write_units.Reads as reads
-use Rattle.flash.proofs.write_units.Lts as lts
-use Rattle.flash.proofs.copy_units.Reads as copy-units-reads
 
 enum-told : tie.Need-enum-told
 enum-told c = search needs

@@ -12,11 +12,6 @@ use Rattle.loader.specs.declared.Refusal.{Refusal}
 use borrow.Author.Needs.{needs}
 use Rattle.loader.proofs.confirm.Statement.{statement}
 use Rattle.loader.proofs.confirm.Tie as tie
-use Rattle.loader.proofs.confirm.Reads as reads
-use Rattle.loader.proofs.confirm.Lts as lts
-use Rattle.flash.proofs.taken.Reads as taken-reads
-use Rattle.loader.proofs.marks.confirm_taken.Reads as confirm-taken-reads
-use Rattle.loader.proofs.marks.refuse.Reads as refuse-reads
 
 taken-requires : tie.Need-taken-requires
 taken-requires c κs = search needs

@@ -14,11 +14,6 @@ use Rattle.loader.specs.declared.Refusal.{Refusal}
 use borrow.Author.Needs.{needs}
 use Rattle.loader.proofs.full_start.Statement.{statement}
 use Rattle.loader.proofs.full_start.Tie as tie
-use Rattle.loader.proofs.full_start.Reads as reads
-use Rattle.loader.proofs.full_start.Lts as lts
-use Rattle.flash.proofs.taken.Reads as taken-reads
-use Rattle.loader.proofs.starts.refuse.Reads as refuse-reads
-use Rattle.loader.proofs.starts.start_taken.Reads as start-taken-reads
 
 taken-requires : tie.Need-taken-requires
 taken-requires c κs = search needs

@@ -2,9 +2,6 @@ use Rattle.loader.specs.PowerUp.{powerUp}
 use borrow.Author.Needs.{needs}
 use Rattle.loader.proofs.power_up.Statement.{statement}
 use Rattle.loader.proofs.power_up.Tie as tie
-use Rattle.loader.proofs.power_up.Reads as reads
-use Rattle.loader.proofs.power_up.Lts as lts
-use Rattle.loader.proofs.full_start.Reads as full-start-reads
 
 full-start-requires : tie.Need-full-start-requires
 full-start-requires c κs = search needs

@@ -6,10 +6,6 @@ use Rattle.spans.specs.Folds.{short-part}
 use borrow.Author.Needs.{needs}
 use Rattle.spans.proofs.all_blank.Statement.{statement}
 use Rattle.spans.proofs.all_blank.Tie as tie
-use Rattle.spans.proofs.all_blank.Reads as reads
-use Rattle.spans.proofs.all_blank.Lts as lts
-use Rattle.spans.proofs.blank_within.Reads as blank-within-reads
-use Rattle.spans.proofs.room.Reads as room-reads
 
 room-requires : tie.Need-room-requires
 room-requires c κs = search needs

@@ -10,8 +10,6 @@ use Rattle.spans.specs.Folds.{blank-fold}
 use borrow.Author.Needs.{needs}
 use Rattle.spans.proofs.blank_within.Statement.{statement}
 use Rattle.spans.proofs.blank_within.Tie as tie
-use Rattle.spans.proofs.blank_within.Reads as reads
-use Rattle.spans.proofs.blank_within.Lts as lts
 
 abbrev Inv-loop : tie.InvT-loop
 Inv-loop area at size all₀ i₀ all i = (i ≤ size) × (all < 256) × (eqb all 255 ≡ same (part area at i) (blank i))

@@ -4,8 +4,6 @@ use Rattle.spans.specs.CutOff.{getD-past}
 use borrow.Author.Needs.{needs}
 use Rattle.spans.proofs.byte_at.Statement.{statement}
 use Rattle.spans.proofs.byte_at.Tie as tie
-use Rattle.spans.proofs.byte_at.Reads as reads
-use Rattle.spans.proofs.byte_at.Lts as lts
 
 shared-slice-read-result : tie.Need-shared-slice-read-result
 shared-slice-read-result c = search needs

@@ -2,11 +2,6 @@ use Rattle.spans.specs.CutOff.{copy-least}
 use borrow.Author.Needs.{needs}
 use Rattle.spans.proofs.copy.Statement.{statement}
 use Rattle.spans.proofs.copy.Tie as tie
-use Rattle.spans.proofs.copy.Reads as reads
-use Rattle.spans.proofs.copy.Lts as lts
-use Rattle.spans.proofs.copy_within.Reads as copy-within-reads
-use Rattle.spans.proofs.least.Reads as least-reads
-use Rattle.spans.proofs.room.Reads as room-reads
 
 room-requires : tie.Need-room-requires
 room-requires c κs = search needs

@@ -2,11 +2,6 @@ use Rattle.spans.specs.CutOff.{blank-least}
 use borrow.Author.Needs.{needs}
 use Rattle.spans.proofs.fill.Statement.{statement}
 use Rattle.spans.proofs.fill.Tie as tie
-use Rattle.spans.proofs.fill.Reads as reads
-use Rattle.spans.proofs.fill.Lts as lts
-use Rattle.spans.proofs.fill_within.Reads as fill-within-reads
-use Rattle.spans.proofs.least.Reads as least-reads
-use Rattle.spans.proofs.room.Reads as room-reads
 
 room-requires : tie.Need-room-requires
 room-requires c κs = search needs

@@ -11,8 +11,6 @@ use Rattle.spans.specs.Folds.{same-fold}
 use borrow.Author.Needs.{needs}
 use Rattle.spans.proofs.same_within.Statement.{statement}
 use Rattle.spans.proofs.same_within.Tie as tie
-use Rattle.spans.proofs.same_within.Reads as reads
-use Rattle.spans.proofs.same_within.Lts as lts
 
 abbrev Inv-loop : tie.InvT-loop
 Inv-loop area at want differ₀ i₀ differ i = (i ≤ length want) × (eqb differ 0 ≡ same (part area at i) (part want 0 i))

@@ -6,10 +6,6 @@ use Rattle.spans.specs.Folds.{short-part}
 use borrow.Author.Needs.{needs}
 use Rattle.spans.proofs.stands.Statement.{statement}
 use Rattle.spans.proofs.stands.Tie as tie
-use Rattle.spans.proofs.stands.Reads as reads
-use Rattle.spans.proofs.stands.Lts as lts
-use Rattle.spans.proofs.room.Reads as room-reads
-use Rattle.spans.proofs.same_within.Reads as same-within-reads
 
 room-requires : tie.Need-room-requires
 room-requires c κs = search needs

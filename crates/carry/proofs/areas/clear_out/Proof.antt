@@ -3,11 +3,6 @@ use Rattle.carry.specs.Areas.{cleared}
 use borrow.Author.Needs.{needs}
 use Rattle.carry.proofs.areas.clear_out.Statement.{statement}
 use Rattle.carry.proofs.areas.clear_out.Tie as tie
-use Rattle.carry.proofs.areas.clear_out.Reads as reads
-use Rattle.carry.proofs.areas.clear_out.Lts as lts
-use Rattle.carry.proofs.trailers.erase_sectors.Reads as erase-sectors-reads
-use Rattle.carry.proofs.trailers.write_ok.Reads as write-ok-reads
-use Rattle.flash.proofs.erase.Reads as erase-reads
 
 sub-last : tie.Need-sub-last
 sub-last c = search needs

@@ -10,11 +10,6 @@ use Rattle.plan.specs.Lists.{mark}
 use borrow.Author.Needs.{needs}
 use Rattle.carry.proofs.areas.data_exchange.Statement.{statement}
 use Rattle.carry.proofs.areas.data_exchange.Tie as tie
-use Rattle.carry.proofs.areas.data_exchange.Reads as reads
-use Rattle.carry.proofs.areas.data_exchange.Lts as lts
-use Rattle.carry.proofs.areas.moves_from.Reads as moves-from-reads
-use Rattle.carry.proofs.trailers.write_mark.Reads as write-mark-reads
-use Rattle.trailer.proofs.places.done_place.Reads as done-place-reads
 
 moves-from-requires : tie.Need-moves-from-requires
 moves-from-requires c κs = search needs

@@ -7,10 +7,6 @@ use Rattle.plan.specs.Lists.{settle, dataOps}
 use borrow.Author.Needs.{needs}
 use Rattle.carry.proofs.areas.from_line_three.Statement.{statement}
 use Rattle.carry.proofs.areas.from_line_three.Tie as tie
-use Rattle.carry.proofs.areas.from_line_three.Reads as reads
-use Rattle.carry.proofs.areas.from_line_three.Lts as lts
-use Rattle.carry.proofs.areas.data_exchange.Reads as data-exchange-reads
-use Rattle.carry.proofs.areas.lines_three_to_six.Reads as lines-three-to-six-reads
 
 lines-three-to-six-requires : tie.Need-lines-three-to-six-requires
 lines-three-to-six-requires c κs = search needs

@@ -3,10 +3,6 @@ use Rattle.carry.specs.Areas.{settled}
 use borrow.Author.Needs.{needs}
 use Rattle.carry.proofs.areas.lines_three_to_six.Statement.{statement}
 use Rattle.carry.proofs.areas.lines_three_to_six.Tie as tie
-use Rattle.carry.proofs.areas.lines_three_to_six.Reads as reads
-use Rattle.carry.proofs.areas.lines_three_to_six.Lts as lts
-use Rattle.carry.proofs.trailers.line_five.Reads as line-five-reads
-use Rattle.flash.proofs.erase.Reads as erase-reads
 
 sub-last : tie.Need-sub-last
 sub-last c = search needs

@@ -8,10 +8,6 @@ use Rattle.carry.specs.Areas.{in-slot0}
 use borrow.Author.Needs.{needs}
 use Rattle.carry.proofs.areas.marked_move.Statement.{statement}
 use Rattle.carry.proofs.areas.marked_move.Tie as tie
-use Rattle.carry.proofs.areas.marked_move.Reads as reads
-use Rattle.carry.proofs.areas.marked_move.Lts as lts
-use Rattle.carry.proofs.areas.one_move.Reads as one-move-reads
-use Rattle.carry.proofs.trailers.write_progress.Reads as write-progress-reads
 
 one-move-requires : tie.Need-one-move-requires
 one-move-requires c κs = search needs

@@ -11,12 +11,6 @@ use Rattle.carry.specs.Steps.{moveIn}
 use borrow.Author.Needs.{needs}
 use Rattle.carry.proofs.areas.move_sector.Statement.{statement}
 use Rattle.carry.proofs.areas.move_sector.Tie as tie
-use Rattle.carry.proofs.areas.move_sector.Reads as reads
-use Rattle.carry.proofs.areas.move_sector.Lts as lts
-use Rattle.flash.proofs.erase.Reads as erase-reads
-use Rattle.flash.proofs.first_unit.Reads as first-unit-reads
-use Rattle.flash.proofs.place_of.Reads as place-of-reads
-use Rattle.flash.proofs.write_units.Reads as write-units-reads
 
 erase-requires : tie.Need-erase-requires
 erase-requires c κs = search needs

@@ -9,9 +9,6 @@ use Rattle.carry.specs.Areas.{state, next-mark, last-mark}
 use borrow.Author.Needs.{needs}
 use Rattle.carry.proofs.areas.moves_from.Statement.{statement}
 use Rattle.carry.proofs.areas.moves_from.Tie as tie
-use Rattle.carry.proofs.areas.moves_from.Reads as reads
-use Rattle.carry.proofs.areas.moves_from.Lts as lts
-use Rattle.carry.proofs.areas.marked_move.Reads as marked-move-reads
 
 abbrev Inv-loop : tie.InvT-loop
 Inv-loop g c slot0₀ slot1₀ scratch₀ r₀ k₀ slot0 slot1 scratch r k = (c ≤ k) × (k ≤ 3 * g .sectors) × (length slot0 ≡ length slot0₀) × (length slot1 ≡ length slot1₀) × (length scratch ≡ length scratch₀) × (steps (build g) (dataOps (build g) k (drop (k - 3) (allMoves (g .sectors - 1)))) (state slot0 slot1 scratch r) ≡ steps (build g) (dataOps (build g) c (drop (c - 3) (allMoves (g .sectors - 1)))) (state slot0₀ slot1₀ scratch₀ r₀))

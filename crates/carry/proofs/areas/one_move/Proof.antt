@@ -5,9 +5,6 @@ use Rattle.carry.specs.Areas.{to-scratch, to-slot1, to-slot0}
 use borrow.Author.Needs.{needs}
 use Rattle.carry.proofs.areas.one_move.Statement.{statement}
 use Rattle.carry.proofs.areas.one_move.Tie as tie
-use Rattle.carry.proofs.areas.one_move.Reads as reads
-use Rattle.carry.proofs.areas.one_move.Lts as lts
-use Rattle.carry.proofs.areas.move_sector.Reads as move-sector-reads
 
 sub-i : tie.Need-sub-i
 sub-i c = search needs

@@ -9,10 +9,6 @@ use Rattle.carry.specs.Areas.{begun}
 use borrow.Author.Needs.{needs}
 use Rattle.carry.proofs.areas.whole_exchange.Statement.{statement}
 use Rattle.carry.proofs.areas.whole_exchange.Tie as tie
-use Rattle.carry.proofs.areas.whole_exchange.Reads as reads
-use Rattle.carry.proofs.areas.whole_exchange.Lts as lts
-use Rattle.carry.proofs.areas.from_line_three.Reads as from-line-three-reads
-use Rattle.carry.proofs.trailers.lines_one_two.Reads as lines-one-two-reads
 
 lines-one-two-requires : tie.Need-lines-one-two-requires
 lines-one-two-requires c κs = search needs

@@ -2,7 +2,7 @@ use Rattle.plan.specs.declared.Course.the-variants.{Resume}
 use Rattle.plan.specs.Lists.{clearOut}
 use Rattle.plan.specs.Bounds.{inBounds, resumed-bounds}
 use Rattle.trailer.specs.Trailer.{trailer}
-use mathlib.Core.Path.{_≡_, sym, ap, subst, _∙_}
+use mathlib.Core.Path.{_≡_, sym, ap, _∙_}
 use mathlib.Core.Bool.{Bool}
 use Rattle.flash.specs.Base.{base, build}
 use Rattle.flash.specs.Operations.{steps}
@@ -13,13 +13,6 @@ use Rattle.carry.specs.Areas.{state}
 use borrow.Author.Needs.{needs}
 use Rattle.carry.proofs.courses.carry_out.Statement.{statement}
 use Rattle.carry.proofs.courses.carry_out.Tie as tie
-use Rattle.carry.proofs.courses.carry_out.Reads as reads
-use Rattle.carry.proofs.courses.carry_out.Lts as lts
-use Rattle.carry.proofs.areas.clear_out.Reads as clear-out-reads
-use Rattle.carry.proofs.areas.data_exchange.Reads as data-exchange-reads
-use Rattle.carry.proofs.areas.from_line_three.Reads as from-line-three-reads
-use Rattle.carry.proofs.areas.whole_exchange.Reads as whole-exchange-reads
-use Rattle.carry.proofs.courses.ok_is_unset.Reads as ok-is-unset-reads
 
 enum-known-course : tie.Need-enum-known-course
 enum-known-course c = search needs

@@ -11,9 +11,6 @@ use Rattle.carry.specs.InArea.{erasesIn}
 use borrow.Author.Needs.{needs}
 use Rattle.carry.proofs.trailers.erase_sectors.Statement.{statement}
 use Rattle.carry.proofs.trailers.erase_sectors.Tie as tie
-use Rattle.carry.proofs.trailers.erase_sectors.Reads as reads
-use Rattle.carry.proofs.trailers.erase_sectors.Lts as lts
-use Rattle.flash.proofs.erase.Reads as erase-reads
 
 abbrev Inv-loop : tie.InvT-loop
 Inv-loop g area₀ count r₀ i₀ area r i = (i ≤ count) × (length area ≡ length area₀) × (erasesIn g 0 count (local area₀ r₀) ≡ erasesIn g i (count - i) (local area r))

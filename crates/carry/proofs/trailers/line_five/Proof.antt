@@ -5,11 +5,6 @@ use Rattle.carry.specs.InArea.{magicIn, threeIn, lineFiveIn}
 use borrow.Author.Needs.{needs}
 use Rattle.carry.proofs.trailers.line_five.Statement.{statement}
 use Rattle.carry.proofs.trailers.line_five.Tie as tie
-use Rattle.carry.proofs.trailers.line_five.Reads as reads
-use Rattle.carry.proofs.trailers.line_five.Lts as lts
-use Rattle.carry.proofs.trailers.three_marks.Reads as three-marks-reads
-use Rattle.carry.proofs.trailers.write_magic.Reads as write-magic-reads
-use Rattle.carry.proofs.trailers.write_ok.Reads as write-ok-reads
 
 sub-last : tie.Need-sub-last
 sub-last c = search needs

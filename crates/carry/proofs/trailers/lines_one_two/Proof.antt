@@ -5,11 +5,6 @@ use Rattle.carry.specs.InArea.{okIn, magicIn, beginIn}
 use borrow.Author.Needs.{needs}
 use Rattle.carry.proofs.trailers.lines_one_two.Statement.{statement}
 use Rattle.carry.proofs.trailers.lines_one_two.Tie as tie
-use Rattle.carry.proofs.trailers.lines_one_two.Reads as reads
-use Rattle.carry.proofs.trailers.lines_one_two.Lts as lts
-use Rattle.carry.proofs.trailers.write_magic.Reads as write-magic-reads
-use Rattle.carry.proofs.trailers.write_ok.Reads as write-ok-reads
-use Rattle.flash.proofs.erase.Reads as erase-reads
 
 erase-requires : tie.Need-erase-requires
 erase-requires c κs = search needs

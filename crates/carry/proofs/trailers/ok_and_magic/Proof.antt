@@ -5,10 +5,6 @@ use Rattle.carry.specs.InArea.{magicIn}
 use borrow.Author.Needs.{needs}
 use Rattle.carry.proofs.trailers.ok_and_magic.Statement.{statement}
 use Rattle.carry.proofs.trailers.ok_and_magic.Tie as tie
-use Rattle.carry.proofs.trailers.ok_and_magic.Reads as reads
-use Rattle.carry.proofs.trailers.ok_and_magic.Lts as lts
-use Rattle.carry.proofs.trailers.write_magic.Reads as write-magic-reads
-use Rattle.carry.proofs.trailers.write_ok.Reads as write-ok-reads
 
 sub-last : tie.Need-sub-last
 sub-last c = search needs

@@ -6,9 +6,6 @@ use Rattle.carry.specs.InArea.{markIn, threeIn}
 use borrow.Author.Needs.{needs}
 use Rattle.carry.proofs.trailers.three_marks.Statement.{statement}
 use Rattle.carry.proofs.trailers.three_marks.Tie as tie
-use Rattle.carry.proofs.trailers.three_marks.Reads as reads
-use Rattle.carry.proofs.trailers.three_marks.Lts as lts
-use Rattle.carry.proofs.trailers.write_progress.Reads as write-progress-reads
 
 write-progress-requires : tie.Need-write-progress-requires
 write-progress-requires c κs = search needs

@@ -8,10 +8,6 @@ use Rattle.flash.specs.Geometry.{byteAt, startOf, unitAt, after}
 use borrow.Author.Needs.{needs}
 use Rattle.carry.proofs.trailers.unit_in.Statement.{statement}
 use Rattle.carry.proofs.trailers.unit_in.Tie as tie
-use Rattle.carry.proofs.trailers.unit_in.Reads as reads
-use Rattle.carry.proofs.trailers.unit_in.Lts as lts
-use Rattle.flash.proofs.start_of.Reads as start-of-reads
-use Rattle.flash.proofs.unit_at.Reads as unit-at-reads
 
 start-of-requires : tie.Need-start-of-requires
 start-of-requires c κs = search needs

@@ -15,12 +15,6 @@ use Rattle.carry.specs.InArea.{magicIn}
 use borrow.Author.Needs.{needs}
 use Rattle.carry.proofs.trailers.write_magic.Statement.{statement}
 use Rattle.carry.proofs.trailers.write_magic.Tie as tie
-use Rattle.carry.proofs.trailers.write_magic.Reads as reads
-use Rattle.carry.proofs.trailers.write_magic.Lts as lts
-use Rattle.carry.proofs.trailers.unit_in.Reads as unit-in-reads
-use Rattle.flash.proofs.write_units.Reads as write-units-reads
-use Rattle.trailer.proofs.places.magic_place.Reads as magic-place-reads
-use Rattle.trailer.proofs.reading.magic_bytes.Reads as magic-bytes-reads
 
 magic-place-requires : tie.Need-magic-place-requires
 magic-place-requires c κs = search needs

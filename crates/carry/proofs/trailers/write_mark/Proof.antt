@@ -8,10 +8,6 @@ use Rattle.carry.specs.InArea.{markIn, mark-unit}
 use borrow.Author.Needs.{needs}
 use Rattle.carry.proofs.trailers.write_mark.Statement.{statement}
 use Rattle.carry.proofs.trailers.write_mark.Tie as tie
-use Rattle.carry.proofs.trailers.write_mark.Reads as reads
-use Rattle.carry.proofs.trailers.write_mark.Lts as lts
-use Rattle.carry.proofs.trailers.unit_in.Reads as unit-in-reads
-use Rattle.flash.proofs.write_units.Reads as write-units-reads
 
 unit-in-requires : tie.Need-unit-in-requires
 unit-in-requires c κs = search needs

@@ -9,10 +9,6 @@ use Rattle.carry.specs.InArea.{markIn, okIn}
 use borrow.Author.Needs.{needs}
 use Rattle.carry.proofs.trailers.write_ok.Statement.{statement}
 use Rattle.carry.proofs.trailers.write_ok.Tie as tie
-use Rattle.carry.proofs.trailers.write_ok.Reads as reads
-use Rattle.carry.proofs.trailers.write_ok.Lts as lts
-use Rattle.carry.proofs.trailers.write_mark.Reads as write-mark-reads
-use Rattle.trailer.proofs.places.ok_place.Reads as ok-place-reads
 
 ok-place-requires : tie.Need-ok-place-requires
 ok-place-requires c κs = search needs

@@ -10,10 +10,6 @@ use Rattle.carry.specs.InArea.{markIn}
 use borrow.Author.Needs.{needs}
 use Rattle.carry.proofs.trailers.write_progress.Statement.{statement}
 use Rattle.carry.proofs.trailers.write_progress.Tie as tie
-use Rattle.carry.proofs.trailers.write_progress.Reads as reads
-use Rattle.carry.proofs.trailers.write_progress.Lts as lts
-use Rattle.carry.proofs.trailers.write_mark.Reads as write-mark-reads
-use Rattle.trailer.proofs.places.mark_place.Reads as mark-place-reads
 
 mark-place-requires : tie.Need-mark-place-requires
 mark-place-requires c κs = search needs

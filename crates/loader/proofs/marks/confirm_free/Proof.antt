@@ -10,12 +10,6 @@ use Rattle.loader.specs.MarkLaws.{left-of, confirmed-state, confirm-writ
 use borrow.Author.Needs.{needs}
 use Rattle.loader.proofs.marks.confirm_free.Statement.{statement}
 use Rattle.loader.proofs.marks.confirm_free.Tie as tie
-use Rattle.loader.proofs.marks.confirm_free.Reads as reads
-use Rattle.loader.proofs.marks.confirm_free.Lts as lts
-use Rattle.carry.proofs.trailers.write_ok.Reads as write-ok-reads
-use Rattle.loader.proofs.marks.is_confirmable.Reads as is-confirmable-reads
-use Rattle.loader.proofs.marks.refuse.Reads as refuse-reads
-use Rattle.loader.proofs.marks.written.Reads as written-reads
 
 is-confirmable-requires : tie.Need-is-confirmable-requires
 is-confirmable-requires c κs = search needs

@@ -11,12 +11,6 @@ use Rattle.loader.specs.Marking.{confirmable}
 use borrow.Author.Needs.{needs}
 use Rattle.loader.proofs.marks.is_confirmable.Statement.{statement}
 use Rattle.loader.proofs.marks.is_confirmable.Tie as tie
-use Rattle.loader.proofs.marks.is_confirmable.Reads as reads
-use Rattle.loader.proofs.marks.is_confirmable.Lts as lts
-use Rattle.trailer.proofs.asking.done_set.Reads as done-set-reads
-use Rattle.trailer.proofs.asking.magic_good.Reads as magic-good-reads
-use Rattle.trailer.proofs.asking.ok_unset.Reads as ok-unset-reads
-use Rattle.trailer.proofs.reading.slot_trailer.Reads as slot-trailer-reads
 
 slot-trailer-requires : tie.Need-slot-trailer-requires
 slot-trailer-requires c κs = search needs

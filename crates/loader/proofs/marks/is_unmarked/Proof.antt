@@ -11,11 +11,6 @@ use Rattle.loader.specs.Marking.{unmarked}
 use borrow.Author.Needs.{needs}
 use Rattle.loader.proofs.marks.is_unmarked.Statement.{statement}
 use Rattle.loader.proofs.marks.is_unmarked.Tie as tie
-use Rattle.loader.proofs.marks.is_unmarked.Reads as reads
-use Rattle.loader.proofs.marks.is_unmarked.Lts as lts
-use Rattle.trailer.proofs.asking.magic_unset.Reads as magic-unset-reads
-use Rattle.trailer.proofs.asking.ok_unset.Reads as ok-unset-reads
-use Rattle.trailer.proofs.reading.slot_trailer.Reads as slot-trailer-reads
 
 slot-trailer-requires : tie.Need-slot-trailer-requires
 slot-trailer-requires c κs = search needs

@@ -9,13 +9,6 @@ use Rattle.loader.specs.MarkLaws.{left-of, marked-state, marks-written, 
 use borrow.Author.Needs.{needs}
 use Rattle.loader.proofs.marks.mark_free.Statement.{statement}
 use Rattle.loader.proofs.marks.mark_free.Tie as tie
-use Rattle.loader.proofs.marks.mark_free.Reads as reads
-use Rattle.loader.proofs.marks.mark_free.Lts as lts
-use Rattle.carry.proofs.trailers.ok_and_magic.Reads as ok-and-magic-reads
-use Rattle.loader.proofs.marks.is_unmarked.Reads as is-unmarked-reads
-use Rattle.loader.proofs.marks.mark_writes.Reads as mark-writes-reads
-use Rattle.loader.proofs.marks.refuse.Reads as refuse-reads
-use Rattle.loader.proofs.marks.written.Reads as written-reads
 
 is-unmarked-requires : tie.Need-is-unmarked-requires
 is-unmarked-requires c κs = search needs

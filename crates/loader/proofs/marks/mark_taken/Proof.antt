@@ -9,12 +9,6 @@ use Rattle.loader.specs.MarkLaws.{stands-free, stands-refused}
 use borrow.Author.Needs.{needs}
 use Rattle.loader.proofs.marks.mark_taken.Statement.{statement}
 use Rattle.loader.proofs.marks.mark_taken.Tie as tie
-use Rattle.loader.proofs.marks.mark_taken.Reads as reads
-use Rattle.loader.proofs.marks.mark_taken.Lts as lts
-use Rattle.loader.proofs.marks.mark_free.Reads as mark-free-reads
-use Rattle.loader.proofs.marks.refuse.Reads as refuse-reads
-use Rattle.loader.proofs.marks.standing_of.Reads as standing-of-reads
-use Rattle.plan.proofs.decision.asks.Reads as asks-reads
 
 asks-requires : tie.Need-asks-requires
 asks-requires c κs = search needs

@@ -8,8 +8,6 @@ use Rattle.loader.specs.MarkLaws.{length-marking}
 use borrow.Author.Needs.{needs}
 use Rattle.loader.proofs.marks.mark_writes.Statement.{statement}
 use Rattle.loader.proofs.marks.mark_writes.Tie as tie
-use Rattle.loader.proofs.marks.mark_writes.Reads as reads
-use Rattle.loader.proofs.marks.mark_writes.Lts as lts
 
 div-magic : tie.Need-div-magic
 div-magic c = search needs

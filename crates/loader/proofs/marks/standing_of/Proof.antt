@@ -3,8 +3,6 @@ use Rattle.loader.specs.Standing.{standingOf}
 use borrow.Author.Needs.{needs}
 use Rattle.loader.proofs.marks.standing_of.Statement.{statement}
 use Rattle.loader.proofs.marks.standing_of.Tie as tie
-use Rattle.loader.proofs.marks.standing_of.Reads as reads
-use Rattle.loader.proofs.marks.standing_of.Lts as lts
 
 enum-told : tie.Need-enum-told
 enum-told c = search needs

@@ -10,10 +10,6 @@ use Rattle.loader.specs.PowerUp.{started}
 use borrow.Author.Needs.{needs}
 use Rattle.loader.proofs.starts.boot_data.Statement.{statement}
 use Rattle.loader.proofs.starts.boot_data.Tie as tie
-use Rattle.loader.proofs.starts.boot_data.Reads as reads
-use Rattle.loader.proofs.starts.boot_data.Lts as lts
-use Rattle.image.proofs.head.Reads as head-reads
-use Rattle.loader.proofs.starts.checked_boot.Reads as checked-boot-reads
 
 head-requires : tie.Need-head-requires
 head-requires c κs = search needs

@@ -3,9 +3,6 @@ use Rattle.loader.specs.PowerUp.{judgedStart}
 use borrow.Author.Needs.{needs}
 use Rattle.loader.proofs.starts.checked_boot.Statement.{statement}
 use Rattle.loader.proofs.starts.checked_boot.Tie as tie
-use Rattle.loader.proofs.starts.checked_boot.Reads as reads
-use Rattle.loader.proofs.starts.checked_boot.Lts as lts
-use Rattle.image.proofs.check.Reads as check-reads
 
 check-requires : tie.Need-check-requires
 check-requires c κs = search needs

@@ -9,9 +9,6 @@ use Rattle.loader.specs.PowerUp.{dataOf}
 use borrow.Author.Needs.{needs}
 use Rattle.loader.proofs.starts.data_of.Statement.{statement}
 use Rattle.loader.proofs.starts.data_of.Tie as tie
-use Rattle.loader.proofs.starts.data_of.Reads as reads
-use Rattle.loader.proofs.starts.data_of.Lts as lts
-use Rattle.spans.proofs.least.Reads as least-reads
 
 sub-least : tie.Need-sub-least
 sub-least c = search needs

@@ -10,12 +10,6 @@ use Rattle.loader.specs.PowerUp.{dataOf}
 use borrow.Author.Needs.{needs}
 use Rattle.loader.proofs.starts.decided.Statement.{statement}
 use Rattle.loader.proofs.starts.decided.Tie as tie
-use Rattle.loader.proofs.starts.decided.Reads as reads
-use Rattle.loader.proofs.starts.decided.Lts as lts
-use Rattle.loader.proofs.starts.slot_accepted.Reads as slot-accepted-reads
-use Rattle.plan.proofs.decision.asks.Reads as asks-reads
-use Rattle.plan.proofs.judge.Reads as judge-reads
-use Rattle.plan.proofs.wants_check.Reads as wants-check-reads
 
 asks-requires : tie.Need-asks-requires
 asks-requires c κs = search needs

@@ -2,8 +2,6 @@ use Rattle.loader.specs.Results.{isDamage}
 use borrow.Author.Needs.{needs}
 use Rattle.loader.proofs.starts.is_damage.Statement.{statement}
 use Rattle.loader.proofs.starts.is_damage.Tie as tie
-use Rattle.loader.proofs.starts.is_damage.Reads as reads
-use Rattle.loader.proofs.starts.is_damage.Lts as lts
 
 enum-told : tie.Need-enum-told
 enum-told c = search needs

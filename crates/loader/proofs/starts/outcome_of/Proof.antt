@@ -7,10 +7,6 @@ use Rattle.loader.specs.PowerUp.{started, bootOf, ended}
 use borrow.Author.Needs.{needs}
 use Rattle.loader.proofs.starts.outcome_of.Statement.{statement}
 use Rattle.loader.proofs.starts.outcome_of.Tie as tie
-use Rattle.loader.proofs.starts.outcome_of.Reads as reads
-use Rattle.loader.proofs.starts.outcome_of.Lts as lts
-use Rattle.loader.proofs.starts.boot_data.Reads as boot-data-reads
-use Rattle.loader.proofs.starts.data_of.Reads as data-of-reads
 
 enum-told : tie.Need-enum-told
 enum-told c = search needs

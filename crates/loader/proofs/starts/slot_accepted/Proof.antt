@@ -1,14 +1,8 @@
-use mathlib.Core.Path.{_≡_, sym, ap, _∙_}
-use Rattle.image.specs.declared.Verdict.{Verdict}
+use mathlib.Core.Path.{sym, ap, _∙_}
 use Rattle.image.specs.Check.{check, isAccepted, accepted}
-use Rattle.loader.specs.PowerUp.{dataOf}
 use borrow.Author.Needs.{needs}
 use Rattle.loader.proofs.starts.slot_accepted.Statement.{statement}
 use Rattle.loader.proofs.starts.slot_accepted.Tie as tie
-use Rattle.loader.proofs.starts.slot_accepted.Reads as reads
-use Rattle.loader.proofs.starts.slot_accepted.Lts as lts
-use Rattle.image.proofs.check.Reads as check-reads
-use Rattle.loader.proofs.starts.data_of.Reads as data-of-reads
 
 data-of-requires : tie.Need-data-of-requires
 data-of-requires c κs = search needs

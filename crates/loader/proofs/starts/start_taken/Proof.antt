@@ -2,17 +2,11 @@ use Rattle.loader.specs.declared.Refusal.{Refusal}
 use mathlib.Core.Path.{_≡_, sym, ap, _∙_}
 use mathlib.Core.Bool.{true, false}
 use Rattle.plan.specs.Asked.{flashOf}
-use Rattle.loader.specs.PowerUp.{refused, onCourse}
+use Rattle.loader.specs.PowerUp.{onCourse}
 use Rattle.loader.specs.Results.{isDamage, damaged, undamaged, refusing}
 use borrow.Author.Needs.{needs}
 use Rattle.loader.proofs.starts.start_taken.Statement.{statement}
 use Rattle.loader.proofs.starts.start_taken.Tie as tie
-use Rattle.loader.proofs.starts.start_taken.Reads as reads
-use Rattle.loader.proofs.starts.start_taken.Lts as lts
-use Rattle.loader.proofs.starts.decided.Reads as decided-reads
-use Rattle.loader.proofs.starts.is_damage.Reads as is-damage-reads
-use Rattle.loader.proofs.starts.refuse.Reads as refuse-reads
-use Rattle.loader.proofs.starts.take_course.Reads as take-course-reads
 
 decided-requires : tie.Need-decided-requires
 decided-requires c κs = search needs

@@ -10,12 +10,6 @@ use Rattle.loader.specs.Results.{took}
 use borrow.Author.Needs.{needs}
 use Rattle.loader.proofs.starts.take_course.Statement.{statement}
 use Rattle.loader.proofs.starts.take_course.Tie as tie
-use Rattle.loader.proofs.starts.take_course.Reads as reads
-use Rattle.loader.proofs.starts.take_course.Lts as lts
-use Rattle.carry.proofs.courses.carry_out.Reads as carry-out-reads
-use Rattle.loader.proofs.starts.outcome_of.Reads as outcome-of-reads
-use Rattle.plan.proofs.done_of.Reads as done-of-reads
-use Rattle.plan.proofs.found_of.Reads as found-of-reads
 
 carry-out-requires : tie.Need-carry-out-requires
 carry-out-requires c κs = search needs
