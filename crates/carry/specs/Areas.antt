@@ -38,7 +38,8 @@ module _ (g : Geometry) (p : Bool) (x0 x1 x2 : List ℕ) (r : Run) where
       ∙ ap (step (build g) (clear (build g) scratch)) (sym (steps-line-five g p (state y0 x1' x2 r₂)))
       ∙ sym (steps-append (build g) line5 (clear (build g) scratch ∷ []) (state y0 x1' x2 r₂))
       ∙ ap (λ (l : Local). steps (build g) (line5 ++ (clear (build g) scratch ∷ [])) (back slot0 (state x0 x1' x2 r₁) l)) e₂
-      ∙ ap (λ (l : Local). steps (build g) (clear (build g) slot0 ∷ (line5 ++ (clear (build g) scratch ∷ []))) (back slot1 (state x0 x1 x2 r) l)) e₁
+      ∙ ap (λ (l : Local). steps (build g) (clear (build g) slot0 ∷ (line5 ++ (clear (build g) scratch ∷ []))) (back slot1
+      (state x0 x1 x2 r) l)) e₁
     where
       line5 : List Op
       line5 = okOps (build g) slot0 p ++ (progress (build g) 0 ∷ progress (build g) 1 ∷ progress (build g) 2 ∷ magicOps (build g) slot0)
@@ -84,12 +85,14 @@ next-mark g k s lo hi =
     let ms : List Move = drop (k + 1 - 3) (allMoves (g .sectors - 1)) in
     ap (λ (l : List Move). steps (build g) (dataOps (build g) k l) s) (next-move (g .sectors) k lo hi)
     ∙ steps-append (build g) (moveOps (build g) m) (progress (build g) k ∷ dataOps (build g) (suc k) ms) s
-    ∙ ap (λ (c : ℕ). steps (build g) (dataOps (build g) c ms) (step (build g) (progress (build g) k) (steps (build g) (moveOps (build g) m) s)))
+    ∙ ap (λ (c : ℕ). steps (build g) (dataOps (build g) c ms) (step (build g) (progress (build g) k) (steps (build g) (moveOps
+    (build g) m) s)))
     (sym (add-one k))
 
 -- after the last mark, copy done
 pub last-mark : (g : Geometry) (k : ℕ) (s : State) → 0 < g .sectors → k ≡ 3 * g .sectors
-    → steps (build g) (dataOps (build g) k (drop (k - 3) (allMoves (g .sectors - 1)))) s ≡ step (build g) (mark (build g) slot0 (doneAt (build g)) 1) s
+    → steps (build g) (dataOps (build g) k (drop (k - 3) (allMoves (g .sectors - 1)))) s ≡ step (build g) (mark (build g) slot0
+    (doneAt (build g)) 1) s
 unfolding dataOps steps
 last-mark g k s p e =
     let none : drop (k - 3) (allMoves (g .sectors - 1)) ≡ [] =

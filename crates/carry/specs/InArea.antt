@@ -49,18 +49,21 @@ erasesIn g i zero l = l
 erasesIn g i (suc k) l = erasesIn g (suc i) k (eraseIn g (sectorNo i) l)
 
 module _ (g : Geometry) (a : Area) where
-  pub steps-ok : (p : Bool) (s : State) → steps (build g) (okOps (build g) a p) s ≡ back a s (okIn g (trailerSector (build g) a) p (in-area a s))
+  pub steps-ok : (p : Bool) (s : State) → steps (build g) (okOps (build g) a p) s ≡ back a s (okIn g (trailerSector (build g) a) p
+      (in-area a s))
   unfolding okOps okIn markIn steps step base
   steps-ok true s = refl
   steps-ok false s = sym (back-own a s)
 
   steps-magic : (s : State) → steps (build g) (magicOps (build g) a) s ≡ back a s (magicIn g (trailerSector (build g) a) (in-area a s))
   unfolding magicOps magicIn base
-  steps-magic s = steps-writes (build g) a (16 / g .unit) (unitAt g (after (startOf g (trailerSector (build g) a)) (magicAt (build g)))) magicBytes s
+  steps-magic s = steps-writes (build g) a (16 / g .unit) (unitAt g (after (startOf g (trailerSector (build g) a)) (magicAt
+      (build g)))) magicBytes s
 
   -- one list after another in the same area
   joined : (xs ys : List Op) (φ ψ : Local → Local) → ((s : State) → steps (build g) xs s ≡ back a s (φ (in-area a s)))
-      → ((s : State) → steps (build g) ys s ≡ back a s (ψ (in-area a s))) → (s : State) → steps (build g) (xs ++ ys) s ≡ back a s (ψ (φ (in-area a s)))
+      → ((s : State) → steps (build g) ys s ≡ back a s (ψ (in-area a s))) → (s : State) → steps (build g) (xs ++ ys) s ≡ back a s (ψ
+      (φ (in-area a s)))
   joined xs ys φ ψ p q s =
       let l : Local = φ (in-area a s) in
       steps-append (build g) xs ys s ∙ ap (steps (build g) ys) (p s) ∙ q (back a s l)
@@ -76,7 +79,8 @@ unfolding begin beginIn
 steps-begin g p s =
     joined g scratch (clear (build g) scratch ∷ []) (okOps (build g) scratch p ++ magicOps (build g) scratch) (eraseIn g i)
     (λ l. magicIn g i (okIn g i p l)) (steps-clear g scratch)
-    (joined g scratch (okOps (build g) scratch p) (magicOps (build g) scratch) (okIn g i p) (magicIn g i) (steps-ok g scratch p) (steps-magic g scratch)) s
+    (joined g scratch (okOps (build g) scratch p) (magicOps (build g) scratch) (okIn g i p) (magicIn g i) (steps-ok g scratch p)
+    (steps-magic g scratch)) s
   where
     i : Sector
     i = trailerSector (build g) scratch
@@ -87,11 +91,13 @@ unfolding steps step base threeIn markIn
 steps-three g s = refl
 
 pub steps-line-five : (g : Geometry) (p : Bool) (s : State)
-    → steps (build g) (okOps (build g) slot0 p ++ (progress (build g) 0 ∷ progress (build g) 1 ∷ progress (build g) 2 ∷ magicOps (build g) slot0)) s
+    → steps (build g) (okOps (build g) slot0 p ++ (progress (build g) 0 ∷ progress (build g) 1 ∷ progress (build g) 2 ∷ magicOps
+    (build g) slot0)) s
     ≡ back slot0 s (lineFiveIn g (trailerSector (build g) slot0) p (in-area slot0 s))
 unfolding lineFiveIn
 steps-line-five g p s =
-    joined g slot0 (okOps (build g) slot0 p) (three ++ magicOps (build g) slot0) (okIn g i p) (λ l. magicIn g i (threeIn g i l)) (steps-ok g slot0 p)
+    joined g slot0 (okOps (build g) slot0 p) (three ++ magicOps (build g) slot0) (okIn g i p) (λ l. magicIn g i (threeIn g i l))
+    (steps-ok g slot0 p)
     (joined g slot0 three (magicOps (build g) slot0) (threeIn g i) (magicIn g i) (steps-three g) (steps-magic g slot0)) s
   where
     i : Sector

@@ -1,12 +1,13 @@
 -- What runs of operations come to in the one area that they change.
 use mathlib.Core.Path.{_≡_, refl, sym, ap, ap₂, _∙_}
-use mathlib.Core.List.{List, [], _∷_}
+use mathlib.Core.List.{List}
 use mathlib.Core.Bool.{false, false≢true}
-use Prim.Native.Nat.{ℕ, zero, suc, _+_, _*_}
+use Prim.Native.Nat.{ℕ, zero, suc, _+_, _*_, _-_}
 use native.Mathlib.Omega.{arith}
 use lib.ListN.{take, drop}
-use lib.Seq.{take-take, take-nil, drop-nil, drop-drop}
+use lib.Seq.{take-take, drop-drop}
 use Rattle.spans.specs.Bytes.{part}
+use Rattle.spans.specs.Runs.{drop-take}
 use Rattle.flash.specs.declared.Geometry.{Geometry}
 use Rattle.flash.specs.declared.Sector.{Sector}
 use Rattle.flash.specs.declared.Unit.{Unit}
@@ -45,13 +46,6 @@ area-back scratch scratch s l h = absurd (false≢true (sym h))
 
 -- ---- units of a list of bytes
 
-drop-take : (n m : ℕ) (xs : List ℕ) → drop n (take (n + m) xs) ≡ take m (drop n xs)
-drop-take n m [] = ap (drop n) (take-nil (n + m)) ∙ drop-nil n ∙ sym (ap (take m) (drop-nil n) ∙ take-nil m)
-drop-take zero m (x ∷ xs) = let e : 0 + m ≡ m = omega arith in ap (λ (k : ℕ). take k (x ∷ xs)) e
-drop-take (suc n) m (x ∷ xs) =
-    let e : suc n + m ≡ suc (n + m) = omega arith in
-    ap (λ (k : ℕ). drop (suc n) (take k (x ∷ xs))) e ∙ drop-take n m xs
-
 first-of : (xs : List ℕ) (at w k : ℕ) → take w (part xs at (suc k * w)) ≡ part xs at w
 unfolding part
 first-of xs at w k = take-take w (suc k * w) (drop at xs) (omega arith)
@@ -59,8 +53,8 @@ first-of xs at w k = take-take w (suc k * w) (drop at xs) (omega arith)
 rest-of : (xs : List ℕ) (at w k : ℕ) → drop w (part xs at (suc k * w)) ≡ part xs (at + w) (k * w)
 unfolding part
 rest-of xs at w k =
-    let e : suc k * w ≡ w + k * w = omega arith in
-    ap (λ (n : ℕ). drop w (take n (drop at xs))) e ∙ drop-take w (k * w) (drop at xs) ∙ ap (take (k * w)) (drop-drop w at xs)
+    let e : suc k * w - w ≡ k * w = omega arith in
+    drop-take w (suc k * w) (drop at xs) ∙ ap (λ (n : ℕ). take n (drop w (drop at xs))) e ∙ ap (take (k * w)) (drop-drop w at xs)
 
 -- k units are written from no more bytes than theirs
 pub own-bytes : (g : Geometry) (k : ℕ) (u : Unit) (bs : List ℕ) (l : Local) → writeAllIn g u k (part bs 0 (k * g .unit)) l ≡ writeAllIn g u k bs l
@@ -101,13 +95,15 @@ steps-copies g a b h (suc k) v u s =
     steps-copies g a b h k (nextUnit v) (nextUnit u) (back b s l)
     ∙ ap₂ (λ (ys : List ℕ) (x : Local). back b (back b s l) (writeAllIn (geometry g) (nextUnit u) k ys x)) rest (in-back b s l)
     ∙ back-back b s l (writeAllIn (geometry g) (nextUnit u) k (drop w (part xs at (suc k * w))) l)
-    ∙ ap (λ (ys : List ℕ). back b s (writeAllIn (geometry g) (nextUnit u) k (drop w (part xs at (suc k * w))) (writeIn (geometry g) u ys (in-area b s))))
+    ∙ ap (λ (ys : List ℕ). back b s (writeAllIn (geometry g) (nextUnit u) k (drop w (part xs at (suc k * w))) (writeIn
+    (geometry g) u ys (in-area b s))))
     (sym (first-of xs at w k))
 
 -- a move, from the bytes src of the area that it comes from
 unfoldable pub moveIn : Geometry → List ℕ → Sector → Sector → Local → Local
 moveIn g src from to l =
-    writeAllIn g (firstUnit g to) (unitsPerSector g) (part src (placeOf g (firstUnit g from) .0) (unitsPerSector g * g .unit)) (eraseIn g to l)
+    writeAllIn g (firstUnit g to) (unitsPerSector g) (part src (placeOf g (firstUnit g from) .0) (unitsPerSector g * g .unit))
+    (eraseIn g to l)
 
 pub steps-move : (g : Build) (m : Move) → sameArea (m .to) (m .from) ≡ false → (s : State)
     → steps g (moveOps g m) s
@@ -119,6 +115,7 @@ steps-move g m h s =
     let v : Unit = firstUnit (geometry g) (m .from-sector) in
     let u : Unit = firstUnit (geometry g) (m .to-sector) in
     steps-copies g (m .from) (m .to) h n v u (back (m .to) s l)
-    ∙ ap₂ (λ (xs : List ℕ) (x : Local). back (m .to) (back (m .to) s l) (writeAllIn (geometry g) u n (part xs (placeOf (geometry g) v .0) (n * g .unit)) x))
+    ∙ ap₂ (λ (xs : List ℕ) (x : Local). back (m .to) (back (m .to) s l) (writeAllIn (geometry g) u n (part xs (placeOf
+    (geometry g) v .0) (n * g .unit)) x))
     (area-back (m .from) (m .to) s l h) (in-back (m .to) s l)
     ∙ back-back (m .to) s l (writeAllIn (geometry g) u n (part (area (m .from) (s .flash)) (placeOf (geometry g) v .0) (n * g .unit)) l)

@@ -44,9 +44,11 @@ module _ (xs : List ℕ) (accepted : check xs ≡ Verdict.Accepted) where
 
   good-head : head xs ≡ Header.Good (headerSize xs) (bodySize xs) (recordsSize xs)
   unfolding head sizes
-  good-head = go (ltb (length xs) 32) (eqb (headerMagic xs) magicNumber) (ltb (headerSize xs) 32) (ltb (length xs) (imageSize xs)) refl refl refl refl
+  good-head = go (ltb (length xs) 32) (eqb (headerMagic xs) magicNumber) (ltb (headerSize xs) 32) (ltb (length xs)
+      (imageSize xs)) refl refl refl refl
     where
-      go : (a m h l : Bool) → ltb (length xs) 32 ≡ a → eqb (headerMagic xs) magicNumber ≡ m → ltb (headerSize xs) 32 ≡ h → ltb (length xs) (imageSize xs) ≡ l
+      go : (a m h l : Bool) → ltb (length xs) 32 ≡ a → eqb (headerMagic xs) magicNumber ≡ m → ltb (headerSize xs) 32 ≡ h → ltb
+          (length xs) (imageSize xs) ≡ l
           → head xs ≡ Header.Good (headerSize xs) (bodySize xs) (recordsSize xs)
       go true m h l pa pm ph pl = absurd (not-bad HeaderSizes (rw pa))
       go false false h l pa pm ph pl = absurd (not-bad HeaderMagic (rw (pa, pm)))
@@ -82,7 +84,8 @@ boots-what-was-checked {checked} {g} {b} {f} {course} due enough {a} q =
     let s : State = steps (build g) (inForce accepted (build g) f) (start b f) in
     let d = recovery.demand-3 accepted (g .unit) (g .sector) (g .sectors) due never b enough in
     let o : a .outcome ≡ ended checked g (s .flash) (s .run .end) =
-    ap (λ (r : Result). r .answer .outcome) (q .promised ∙ by-state checked g b f course (due .fits) (due .decided) (undamaged (due .which))) in
+    ap (λ (r : Result). r .answer .outcome) (q .promised ∙ by-state checked g b f course (due .fits) (due .decided) (undamaged
+    (due .which))) in
     o ∙ ap (ended checked g (s .flash)) (d .0 .ended)
     ∙ ap (λ (ys : List ℕ). started checked (head ys) (check ys)) (swapped-data g f (s .flash) (d .1))
     ∙ boots-it xs (accepts-images xs (exchange-of-image g f (due .which) (due .decided))) checked

@@ -58,7 +58,8 @@ start-ends checked g b f = go (valid (build g) f) refl (isDamage (decide accepte
     outcome : Result → Outcome
     outcome r = r .answer .outcome
 
-    go : (v : Bool) → valid (build g) f ≡ v → (d : Bool) → isDamage (decide accepted (build g) f) ≡ d → Ends (fullStart checked g b f .answer .outcome)
+    go : (v : Bool) → valid (build g) f ≡ v → (d : Bool) → isDamage (decide accepted (build g) f) ≡ d → Ends
+        (fullStart checked g b f .answer .outcome)
     go false v d h = rw v (refuses Refusal.Geometry (omega arith) (omega arith))
     go true v true h = rw (v, damaged checked g b f (decide accepted (build g) f) h) (refuses Refusal.Damage (omega arith) (omega arith))
     go true v false h = subst Ends (sym (ap outcome (as-listed checked g b f (decide accepted (build g) f) v refl h)))

@@ -118,7 +118,8 @@ module _ (g : Build) where
 
 module _ (g : Geometry) (f : Flash) where
   -- "Accepted: exchange": what is exchanged is an image in slot 1's data bytes
-  pub exchange-of-image : {course : Course} {p : Bool} → Exchange course p → decide accepted (build g) f ≡ course → Image (dataOf g (f .in1))
+  pub exchange-of-image : {course : Course} {p : Bool} → Exchange course p → decide accepted (build g) f ≡ course → Image (dataOf g
+      (f .in1))
   unfolding dataOf
   exchange-of-image x e =
       accepted-image (dataOf g (f .in1))

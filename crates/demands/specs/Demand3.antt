@@ -45,9 +45,12 @@ areas checked g b f = go (valid (build g) f) (decide accepted (build g) f)
 pub demand-3 : {checked : Bool} {g : Geometry} {b : ℕ} {f f' : Flash} {course : Course} {p : Bool}
     → Due accepted (build g) f course p → Failures (build g) (inForce accepted (build g)) f f'
     → 3 * (g .sectors - 1) * (g .sector / g .unit + 2) + 8 + 2 * one-if p + 32 / g .unit ≤ b
-    → {a a' : Answer} {end end' : Flash} → Start checked g b f a end → Start checked g b f' a' end' → (end' ≡ end) × Swapped (build g) f end'
+    → {a a' : Answer} {end end' : Flash} → Start checked g b f a end → Start checked g b f' a' end' → (end' ≡ end) × Swapped
+    (build g) f end'
 demand-3 {checked} {g} {b} {f} {f'} due fs enough {end = end} {end'} q q' =
     let d = recovery.demand-3 accepted (g .unit) (g .sector) (g .sectors) due fs b enough in
-    let e : end ≡ steps (build g) (inForce accepted (build g) f) (start b f) .flash = ap (λ (r : Result). r .flash) (q .promised) ∙ areas checked g b f in
-    let e' : end' ≡ steps (build g) (inForce accepted (build g) f') (start b f') .flash = ap (λ (r : Result). r .flash) (q' .promised) ∙ areas checked g b f' in
+    let e : end ≡ steps (build g) (inForce accepted (build g) f) (start b f) .flash = ap (λ (r : Result). r .flash) (q .promised)
+    ∙ areas checked g b f in
+    let e' : end' ≡ steps (build g) (inForce accepted (build g) f') (start b f') .flash = ap (λ (r : Result). r .flash)
+    (q' .promised) ∙ areas checked g b f' in
     (e' ∙ d .0 .carried ∙ sym e, rw e' (d .1))

@@ -17,7 +17,11 @@ pub record Start (checked : Bool) (g : Geometry) (b : ℕ) (f : Flash) (a : Answ
 -- any two answers that the promise allows are equal, and so are the areas
 pub one-answer : {checked : Bool} {g : Geometry} {b : ℕ} {f f₁ f₂ : Flash} {a₁ a₂ : Answer}
     → Start checked g b f a₁ f₁ → Start checked g b f a₂ f₂ → (a₁ ≡ a₂) × (f₁ ≡ f₂)
-one-answer p q = (ap (λ (r : Result). r .answer) (p .promised ∙ sym (q .promised)), ap (λ (r : Result). r .flash) (p .promised ∙ sym (q .promised)))
+one-answer p q = (
+  ap (λ (r : Result). r .answer) (p .promised ∙ sym (q .promised)),
+  ap (λ (r : Result). r .flash) (p .promised ∙ sym
+      (q .promised)),
+)
 
 -- the same of marking and confirming
 pub record Marks (what : Geometry → Flash → MarkResult) (g : Geometry) (f : Flash) (a : Marked) (f' : Flash) : Type 0 where
@@ -25,4 +29,8 @@ pub record Marks (what : Geometry → Flash → MarkResult) (g : Geometry) (f : 
 
 pub one-mark : {what : Geometry → Flash → MarkResult} {g : Geometry} {f f₁ f₂ : Flash} {a₁ a₂ : Marked}
     → Marks what g f a₁ f₁ → Marks what g f a₂ f₂ → (a₁ ≡ a₂) × (f₁ ≡ f₂)
-one-mark p q = (ap (λ (r : MarkResult). r .answer) (p .promised ∙ sym (q .promised)), ap (λ (r : MarkResult). r .flash) (p .promised ∙ sym (q .promised)))
+one-mark p q = (
+  ap (λ (r : MarkResult). r .answer) (p .promised ∙ sym (q .promised)),
+  ap (λ (r : MarkResult). r .flash) (p .promised ∙ sym
+      (q .promised)),
+)

@@ -1,6 +1,6 @@
 -- Document 01, "The flash": the three areas and their sectors; and what one build of the loader differs in from another.
 use mathlib.Core.List.{List, [], _∷_}
-use mathlib.Core.Bool.{Bool, true, false}
+use mathlib.Core.Bool.{Bool, true, false, _||_}
 use Prim.Native.Nat.{ℕ, suc, _+_, _*_, _-_, _%_}
 use lib.ListN.{length}
 use lib.Dec.{eqb, leb}

@@ -43,7 +43,8 @@ attempt-left erased ys l = go (l .run .end) (eqb (l .run .left) 0) erased
   where
     go : (e : End) (z erased : Bool)
         → onward e l (pick z (local (l .bytes) (record { left = l .run .left; end = Stopped }))
-        (pick erased (local ys (going (l .run .left - 1))) (local (l .bytes) (record { left = l .run .left; end = Unerased })))) .run .left ≤ l .run .left
+        (pick erased (local ys (going (l .run .left - 1))) (local (l .bytes)
+        (record { left = l .run .left; end = Unerased })))) .run .left ≤ l .run .left
     go Going true erased = omega arith
     go Going false true = omega arith
     go Going false false = omega arith
@@ -55,7 +56,8 @@ unfolding step eraseIn writeIn
 step-left g (erase a i) s = attempt-left true (put (area a (s .flash)) (startOf (geometry g) i .0) (blank (g .sector))) (in-area a s)
 step-left g (write a u bs) s = attempt-left (erased (geometry g) u (area a (s .flash))) (put (area a (s .flash)) (placeOf (geometry g) u .0) bs) (in-area a s)
 step-left g (copy c v a u) s =
-    attempt-left (erased (geometry g) u (area a (s .flash))) (put (area a (s .flash)) (placeOf (geometry g) u .0) (unitOf g c v (s .flash))) (in-area a s)
+    attempt-left (erased (geometry g) u (area a (s .flash))) (put (area a (s .flash)) (placeOf (geometry g) u .0) (unitOf g c v
+    (s .flash))) (in-area a s)
 
 pub steps-left : (g : Build) (ops : List Op) (s : State) → steps g ops s .run .left ≤ s .run .left
 unfolding steps

@@ -1,12 +1,12 @@
 -- The questions that `fits` asks of the base build, in the three parts in which code asks them, and the bounds that follow.
 use mathlib.Core.Path.{_≡_, refl, sym, _∙_}
 use mathlib.Core.List.{List, [], _∷_}
-use mathlib.Core.Bool.{Bool, true, false, _&&_, false≢true}
+use mathlib.Core.Bool.{Bool, true, false, _&&_, false≢true, _||_}
 use Prim.Native.Nat.{ℕ, _+_, _*_, _%_, _≤_, _<_}
 use native.Mathlib.Omega.{arith}
 use lib.Dec.{eqb, leb}
 use borrow.Author.Tests.{eqb-true, leb-true}
-use Rattle.spans.specs.Choice.{every}
+use Rattle.spans.specs.Choice.{every, both}
 use Rattle.flash.specs.declared.Geometry.{Geometry}
 use Rattle.flash.specs.Build.{asked, fits}
 use Rattle.flash.specs.Base.{base, build}
@@ -17,14 +17,11 @@ unitAsked w = eqb w 1 || eqb w 2 || eqb w 4 || eqb w 8
 
 unfoldable pub sizesAsked : Geometry → List Bool
 sizesAsked g =
-    eqb (g .sector % g .unit) 0 ∷ leb (384 * g .unit + 32) (g .sector) ∷ leb (g .sector) 65536 ∷ leb 2 (g .sectors) ∷ leb (g .sectors) 128 ∷ []
+    eqb (g .sector % g .unit) 0 ∷ leb (384 * g .unit + 32) (g .sector) ∷ leb (g .sector) 65536 ∷ leb 2 (g .sectors) ∷ leb
+    (g .sectors) 128 ∷ []
 
 unfoldable pub lengthsAsked : Geometry → ℕ → ℕ → ℕ → List Bool
 lengthsAsked g l0 l1 l2 = eqb l0 (g .sectors * g .sector) ∷ eqb l1 (g .sectors * g .sector) ∷ eqb l2 (2 * g .sector) ∷ []
-
-both : (a b : Bool) → (a && b) ≡ true → (a ≡ true) × (b ≡ true)
-both true b h = (refl, h)
-both false b h = absurd (false≢true h)
 
 and-assoc : (a b c : Bool) → ((a && b) && c) ≡ (a && (b && c))
 and-assoc true b c = refl

@@ -55,7 +55,8 @@ blank-run-all g (suc n) u xs h =
     let here : part xs (u .0 * g .unit) (g .unit) ≡ blank (g .unit) =
     ap (λ (at : ℕ). part xs at (g .unit)) e ∙ blank-within xs (u .0 * g .unit) (suc n * g .unit) 0 (g .unit) h (omega arith) in
     let later : part xs ((u .0 + 1) * g .unit) (n * g .unit) ≡ blank (n * g .unit) =
-    ap (λ (at : ℕ). part xs at (n * g .unit)) n₁ ∙ blank-within xs (u .0 * g .unit) (suc n * g .unit) (g .unit) (n * g .unit) h (omega arith) in
+    ap (λ (at : ℕ). part xs at (n * g .unit)) n₁ ∙ blank-within xs (u .0 * g .unit) (suc n * g .unit) (g .unit) (n * g .unit) h
+    (omega arith) in
     rw (here, same-refl (blank (g .unit))) (ap suc (blank-run-all g n (nextUnit u) xs later))
 
 -- ---- the closed form
@@ -80,7 +81,11 @@ put-take-join xs at w bs m = go (ltb (length bs) w) refl
 -- c units written, of n that the allowance b reaches, of k
 abbrev pub wrote : Geometry → Unit → ℕ → List ℕ → List ℕ → ℕ → ℕ → ℕ → Local
 wrote g u k bs xs b n c =
-    local (put xs (placeOf g u .0) (take (c * g .unit) bs)) (record { left = b - c; end = pick (ltb c n) Unerased (pick (ltb b k) Stopped Going) })
+    local (put xs (placeOf g u .0) (take (c * g .unit) bs)) (record {
+      left = b - c;
+      end = pick (ltb c n) Unerased (pick
+          (ltb b k) Stopped Going);
+    })
 
 ltb-suc : (m n : ℕ) → ltb (suc m) (suc n) ≡ ltb m n
 ltb-suc m n = leb·suc-suc (suc m) n
@@ -146,7 +151,8 @@ writes-at-once g (suc k) u bs xs (suc b) = go (erased g u xs) refl (writes-at-on
     m = min b k
 
     go : (t : Bool) → erased g u xs ≡ t
-        → writeAllIn g (nextUnit u) k (drop w bs) (local xs₁ (going b)) ≡ wrote g (nextUnit u) k (drop w bs) xs₁ b m (blankRun g (nextUnit u) m xs₁)
+        → writeAllIn g (nextUnit u) k (drop w bs) (local xs₁ (going b)) ≡ wrote g (nextUnit u) k (drop w bs) xs₁ b m (blankRun g
+        (nextUnit u) m xs₁)
         → writeAllIn g (nextUnit u) k (drop w bs) (writeIn g u (take w bs) (local xs (going (suc b))))
         ≡ wrote g u (suc k) bs xs (suc b) (min (suc b) (suc k)) (blankRun g u (min (suc b) (suc k)) xs)
     go false e ih =
@@ -155,7 +161,8 @@ writes-at-once g (suc k) u bs xs (suc b) = go (erased g u xs) refl (writes-at-on
         ∙ halted-writes g k (nextUnit u) (drop w bs) xs (suc b) Unerased unerased-halts
         ∙ sym (ap (λ (n : ℕ). wrote g u (suc k) bs xs (suc b) n (blankRun g u n xs)) (suc-min-suc b k)
         ∙ ap (wrote g u (suc k) bs xs (suc b) (suc m)) r ∙ wrote-none g u (suc k) bs xs (suc b) (suc m)
-        ∙ ap (λ (t : Bool). local xs (record { left = suc b; end = pick t Unerased (pick (ltb (suc b) (suc k)) Stopped Going) })) (ltb-zero-suc m))
+        ∙ ap (λ (t : Bool). local xs (record { left = suc b; end = pick t Unerased (pick (ltb (suc b) (suc k)) Stopped Going) }))
+        (ltb-zero-suc m))
     go true e ih =
         let c : ℕ = blankRun g (nextUnit u) m xs in
         let r : blankRun g u (suc m) xs ≡ suc c = rw e in
@@ -169,8 +176,16 @@ writes-at-once g (suc k) u bs xs (suc b) = go (erased g u xs) refl (writes-at-on
         ∙ ap (λ (i : ℕ). put xs (u .0 * w) (take i bs)) cw in
         ap (writeAllIn g (nextUnit u) k (drop w bs)) (write-done g u (take w bs) xs b e) ∙ ih
         ∙ ap (wrote g (nextUnit u) k (drop w bs) xs₁ b m) same-run
-        ∙ ap₂ (λ (ys : List ℕ) (l : ℕ). local ys (record { left = l; end = pick (ltb c m) Unerased (pick (ltb b k) Stopped Going) })) bytes left
-        ∙ ap₂ (λ (p q : Bool). local (put xs (u .0 * w) (take (suc c * w) bs)) (record { left = suc b - suc c; end = pick p Unerased (pick q Stopped Going) }))
+        ∙ ap₂ (λ (ys : List ℕ) (l : ℕ). local ys (record {
+          left = l;
+          end = pick (ltb c m) Unerased (pick
+              (ltb b k) Stopped Going);
+        })) bytes left
+        ∙ ap₂ (λ (p q : Bool). local (put xs (u .0 * w) (take (suc c * w) bs)) (record {
+          left = suc b - suc c;
+          end = pick p Unerased
+              (pick q Stopped Going);
+        }))
         (sym (ltb-suc c m)) (sym (ltb-suc b k))
         ∙ ap (wrote g u (suc k) bs xs (suc b) (suc m)) (sym r)
         ∙ sym (ap (λ (n : ℕ). wrote g u (suc k) bs xs (suc b) n (blankRun g u n xs)) (suc-min-suc b k))

@@ -78,11 +78,3 @@ isAccepted (Rejected c) = false
 
 unfoldable pub accepted : List ℕ → Bool
 accepted xs = isAccepted (check xs)
-
--- neither cause 1 nor cause 2: what the plain start asks of slot 0
-unfoldable pub isGood : Header → Bool
-isGood (Bad c) = false
-isGood (Good header body size) = true
-
-unfoldable pub bootable : List ℕ → Bool
-bootable xs = isGood (head xs)

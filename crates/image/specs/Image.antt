@@ -79,7 +79,8 @@ pub data When (xs : List ℕ) : Verdict → Type 0 where
   small-header : 32 ≤ length xs → headerMagic xs ≡ magicNumber → headerSize xs < 32 → When xs (Rejected HeaderSizes)
   sum-above : 32 ≤ length xs → headerMagic xs ≡ magicNumber → length xs < imageSize xs → When xs (Rejected HeaderSizes)
   not-filled : GoodHeader xs → ((rs : List Trailing) → Fills (recordsArea xs) rs → ⊥) → When xs (Rejected RecordsArea)
-  not-one : GoodHeader xs → (rs : List Trailing) → Fills (recordsArea xs) rs → ((d : Trailing) → OneDigest rs d → ⊥) → When xs (Rejected DigestRecord)
+  not-one : GoodHeader xs → (rs : List Trailing) → Fills (recordsArea xs) rs → ((d : Trailing) → OneDigest rs d → ⊥) → When xs
+      (Rejected DigestRecord)
   differs : GoodHeader xs → (rs : List Trailing) → Fills (recordsArea xs) rs → (d : Trailing) → OneDigest rs d
       → (d .bytes ≡ sha256 (take (coveredSize xs) xs) → ⊥) → When xs (Rejected DigestDiffers)
   image : Image xs → When xs Accepted

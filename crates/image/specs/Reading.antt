@@ -57,7 +57,9 @@ field-drop xs at place size = rw drop-drop
 
 shift : (xs : List ℕ) (at : ℕ) → stepAt xs at ≡ shifted at (stepAt (drop at xs) 0)
 unfolding shifted
-shift xs at = ⊎-elim some (λ h. step-end xs at h ∙ sym (ap (shifted at) (step-end (drop at xs) 0 (omega (arith, length-drop at xs))))) (less at (length xs))
+shift xs at =
+    ⊎-elim some (λ h. step-end xs at h ∙ sym (ap (shifted at) (step-end (drop at xs) 0 (omega (arith, length-drop at xs)))))
+    (less at (length xs))
   where
     size : field (drop at xs) 2 2 ≡ field xs (at + 2) 2
     size = field-drop xs at 2 2
@@ -65,25 +67,29 @@ shift xs at = ⊎-elim some (λ h. step-end xs at h ∙ sym (ap (shifted at) (st
     found : at + 4 ≤ length xs → at + 4 + field xs (at + 2) 2 ≤ length xs → stepAt xs at ≡ shifted at (stepAt (drop at xs) 0)
     found h k =
         step-record xs at h k
-        ∙ sym (ap (shifted at) (step-record (drop at xs) 0 (omega (arith, length-drop at xs)) (omega (arith, length-drop at xs, size))) ∙ rw (size, getD-drop at xs 0 0, add-zero) refl)
+        ∙ sym (ap (shifted at) (step-record (drop at xs) 0 (omega (arith, length-drop at xs)) (omega
+        (arith, length-drop at xs, size))) ∙ rw (size, getD-drop at xs 0 0, add-zero) refl)
 
     headed : at + 4 ≤ length xs → stepAt xs at ≡ shifted at (stepAt (drop at xs) 0)
     headed h =
         ⊎-elim
-        (λ k. step-cut xs at h k ∙ sym (ap (shifted at) (step-cut (drop at xs) 0 (omega (arith, length-drop at xs)) (omega (arith, length-drop at xs, size)))))
+        (λ k. step-cut xs at h k ∙ sym (ap (shifted at) (step-cut (drop at xs) 0 (omega (arith, length-drop at xs)) (omega
+        (arith, length-drop at xs, size)))))
         (found h) (less (length xs) (at + 4 + field xs (at + 2) 2))
 
     some : at < length xs → stepAt xs at ≡ shifted at (stepAt (drop at xs) 0)
     some p =
         ⊎-elim
-        (λ k. step-short xs at p k ∙ sym (ap (shifted at) (step-short (drop at xs) 0 (omega (arith, length-drop at xs)) (omega (arith, length-drop at xs)))))
+        (λ k. step-short xs at p k ∙ sym (ap (shifted at) (step-short (drop at xs) 0 (omega (arith, length-drop at xs)) (omega
+        (arith, length-drop at xs)))))
         headed (less (length xs) (at + 4))
 
 -- ---- reading on gives the records of the rest
 
 step-told : (xs : List ℕ) (at n : ℕ) (s : Step) → Stands (drop at xs) 0 s → length (drop at xs) ≤ suc n
     → ((to : ℕ) → length (drop to xs) ≤ n → readOn n xs to ≡ readingOf (splitIn n (drop to xs)))
-    → readingBy (shifted at s) xs (readOn n xs (after (shifted at s))) ≡ readingOf (firstThen s (drop at xs) (splitIn n (drop (after s) (drop at xs))))
+    → readingBy (shifted at s) xs (readOn n xs (after (shifted at s))) ≡ readingOf (firstThen s (drop at xs) (splitIn n (drop
+    (after s) (drop at xs))))
 unfolding shifted readingBy readingOf firstThen after lastOf recordOf tell part
 step-told xs at n End w h ih = refl
 step-told xs at n Stump (Stands.stump p) h ih = ap (λ (l : Step). record { told = []; last = l }) (over (drop at xs) p)
@@ -96,7 +102,8 @@ step-told xs at n (Record kind start size) (Stands.whole w) h ih =
     let to : at + start + size ≡ at + (start + size) = omega arith in
     let short : length (drop (at + start + size) xs) ≤ n = simp length-drop (omega (arith, length-drop at xs, w .within)) in
     let later : readOn n xs (at + start + size) ≡ readingOf (splitIn n (drop (start + size) (drop at xs))) =
-    ih (at + start + size) short ∙ ap (λ (l : List ℕ). readingOf (splitIn n l)) (ap (λ (m : ℕ). drop m xs) to ∙ sym (drop-drop (start + size) at xs)) in
+    ih (at + start + size) short ∙ ap (λ (l : List ℕ). readingOf (splitIn n l)) (ap (λ (m : ℕ). drop m xs) to ∙ sym (drop-drop
+    (start + size) at xs)) in
     let bytes : part xs (at + start) size ≡ part (drop at xs) 4 size = rw (four, drop-drop) refl in
     (λ i. record { told = record { kind = w .kind-is i; bytes = bytes i } ∷ later i .told; last = later i .last })
 

@@ -29,7 +29,8 @@ module _ (xs : List ℕ) (at : ℕ) where
   unfolding stepAt recordAt
   step-cut h k = let p : at < length xs = omega arith in rw (lt-leb _ _ p, le-leb _ _ h, lt-leb _ _ k)
 
-  pub step-record : at + 4 ≤ length xs → at + 4 + field xs (at + 2) 2 ≤ length xs → stepAt xs at ≡ Record (getD xs at 0) (at + 4) (field xs (at + 2) 2)
+  pub step-record : at + 4 ≤ length xs → at + 4 + field xs (at + 2) 2 ≤ length xs → stepAt xs at ≡ Record (getD xs at 0) (at + 4)
+      (field xs (at + 2) 2)
   unfolding stepAt recordAt
   step-record h k = let p : at < length xs = omega arith in rw (lt-leb _ _ p, le-leb _ _ h, le-leb _ _ k)
 

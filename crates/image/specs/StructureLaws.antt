@@ -81,7 +81,8 @@ pub record Stands (xs : List ℕ) (at : ℕ) (d : Trailing) : Type 0 where
 pub data Comes (xs : List ℕ) (area : List ℕ) (covered : ℕ) : Layout → Type 0 where
   not-filled : ((rs : List Trailing) → Fills area rs → ⊥) → Comes xs area covered (Wrong RecordsArea)
   not-one : (rs : List Trailing) → Fills area rs → ((d : Trailing) → OneDigest rs d → ⊥) → Comes xs area covered (Wrong DigestRecord)
-  sound : {at : ℕ} → (rs : List Trailing) → Fills area rs → (d : Trailing) → OneDigest rs d → Stands xs at d → Comes xs area covered (Sound covered at)
+  sound : {at : ℕ} → (rs : List Trailing) → Fills area rs → (d : Trailing) → OneDigest rs d → Stands xs at d → Comes xs area covered
+      (Sound covered at)
 
 as-many : (xs : List ℕ) (ps : List Place) (ds : List Trailing) → Placed xs ps ds → length ps ≡ length ds
 as-many xs [] [] Placed.none = refl
@@ -123,7 +124,8 @@ module _ (xs area : List ℕ) (covered : ℕ) (before behind : List ℕ) (split 
   comes-over s e b [] o =
       let exactly : area ≡ laid (s .found) = sym (b .whole) ∙ rw (o, append-nil) refl in
       let f : Fills area (s .found) = record { exactly = exactly; lengths = b .lengths } in
-      let p : Placed xs (digests covered (s .found)) (ofType 1 (s .found)) = rw (split, exactly) (placed before (s .found) behind covered long) in
+      let p : Placed xs (digests covered (s .found)) (ofType 1 (s .found)) = rw (split, exactly) (placed before
+      (s .found) behind covered long) in
       one-of xs area covered (s .found) f (digests covered (s .found)) (ofType 1 (s .found)) refl p
   comes-over s e b (y ∷ ys) o =
       Comes.not-filled
@@ -143,7 +145,8 @@ module _ (xs area : List ℕ) (covered : ℕ) (before behind : List ℕ) (split 
 pub cut : (xs : List ℕ) (at size : ℕ) → xs ≡ take at xs ++ (part xs at size ++ drop (at + size) xs)
 unfolding part
 cut xs at size =
-    sym (ap (λ (t : List ℕ). take at xs ++ t) (ap (λ (t : List ℕ). take size (drop at xs) ++ t) (sym (drop-drop size at xs)) ∙ take-append-drop size (drop at xs)) ∙ take-append-drop at xs)
+    sym (ap (λ (t : List ℕ). take at xs ++ t) (ap (λ (t : List ℕ). take size (drop at xs) ++ t) (sym (drop-drop size at xs))
+    ∙ take-append-drop size (drop at xs)) ∙ take-append-drop at xs)
 
 pub structure-bad : (xs : List ℕ) (c : Cause) → head xs ≡ Bad c → structure xs ≡ Wrong c
 unfolding structure withSizes
@@ -158,10 +161,12 @@ module _ (xs : List ℕ) (g : GoodHeader xs) where
   pub comes : Comes xs (recordsArea xs) (coveredSize xs) (structure xs)
   unfolding recordsArea coveredSize imageSize
   comes =
-      let e : head xs ≡ Good (headerSize xs) (bodySize xs) (recordsSize xs) = head-known xs (g .lent) (g .magic) ∙ sizes-good xs (g .header) (g .fits) in
+      let e : head xs ≡ Good (headerSize xs) (bodySize xs) (recordsSize xs) = head-known xs (g .lent) (g .magic) ∙ sizes-good xs
+      (g .header) (g .fits) in
       let l : length (take (coveredSize xs) xs) ≡ coveredSize xs = length-take-le (coveredSize xs) xs (omega (arith, g .fits)) in
       rw (structure-good xs (headerSize xs) (bodySize xs) (recordsSize xs) e)
-      (comes-of xs (recordsArea xs) (coveredSize xs) (take (coveredSize xs) xs) (drop (imageSize xs) xs) (cut xs (coveredSize xs) (recordsSize xs)) l)
+      (comes-of xs (recordsArea xs) (coveredSize xs) (take (coveredSize xs) xs) (drop (imageSize xs) xs) (cut xs (coveredSize xs)
+      (recordsSize xs)) l)
 
 -- what the digest covers and where it stands lie in the bytes
 pub record Within (xs : List ℕ) (covered at : ℕ) : Type 0 where

@@ -75,7 +75,8 @@ module _ (xs : List ℕ) (g : GoodHeader xs) (rs : List Trailing) (f : Fills (re
   is-image e =
       let header = take (headerSize xs) xs in
       let long : length header ≡ headerSize xs = length-take-le (headerSize xs) xs (omega (arith, g .fits)) in
-      let k : SameFields (header ++ drop (headerSize xs) xs) header = same-fields header (drop (headerSize xs) xs) (omega (arith, g .header)) in
+      let k : SameFields (header ++ drop (headerSize xs) xs) header = same-fields header (drop (headerSize xs) xs) (omega
+      (arith, g .header)) in
       let all : header ++ drop (headerSize xs) xs ≡ xs = take-append-drop (headerSize xs) xs in
       let fields : SameFields xs header = rw all at k in
       let covers : take (coveredSize xs) xs ≡ header ++ part xs (headerSize xs) (bodySize xs) = take-add (headerSize xs) (bodySize xs) xs in
@@ -107,17 +108,20 @@ module _ (xs : List ℕ) where
   bad HeaderSizes (Heads.sum-above l m h) = When.sum-above l m h
 
   module _ (g : GoodHeader xs) where
-    digest-of : (covered at : ℕ) → covered ≡ coveredSize xs → (rs : List Trailing) → Fills (recordsArea xs) rs → (d : Trailing) → OneDigest rs d → Stands xs at d
+    digest-of : (covered at : ℕ) → covered ≡ coveredSize xs → (rs : List Trailing) → Fills (recordsArea xs) rs →
+        (d : Trailing) → OneDigest rs d → Stands xs at d
         → (t : Bool) → same (part xs at 32) (sha256 (take covered xs)) ≡ t → When xs (digestAt (Sound covered at) xs)
     digest-of covered at c rs f d o s true e =
-        let right : d .bytes ≡ sha256 (take (coveredSize xs) xs) = sym (s .bytes-are) ∙ (same-eq _ _ e ∙ ap (λ (n : ℕ). sha256 (take n xs)) c) in
+        let right : d .bytes ≡ sha256 (take (coveredSize xs) xs) = sym (s .bytes-are) ∙ (same-eq _ _ e ∙ ap (λ (n : ℕ). sha256
+        (take n xs)) c) in
         rw (digest-same xs covered at e) (When.image (is-image xs g rs f d o right))
     digest-of covered at c rs f d o s false e =
         rw (digest-other xs covered at e)
         (When.differs g rs f d o
         (λ right.
         let k : part xs at 32 ≡ sha256 (take covered xs) = s .bytes-are ∙ (right ∙ ap (λ (n : ℕ). sha256 (take n xs)) (sym c)) in
-        let t : same (part xs at 32) (sha256 (take covered xs)) ≡ true = ap (λ (l : List ℕ). same l (sha256 (take covered xs))) k ∙ same-refl _ in
+        let t : same (part xs at 32) (sha256 (take covered xs)) ≡ true = ap (λ (l : List ℕ). same l (sha256 (take covered xs))) k
+        ∙ same-refl _ in
         let z : _≡_ {A = ℕ} 0 1 = cc in
         omega arith))
 
@@ -125,7 +129,8 @@ module _ (xs : List ℕ) where
     unfolding digestAt
     passed (Wrong RecordsArea) (Comes.not-filled n) = When.not-filled g n
     passed (Wrong DigestRecord) (Comes.not-one rs f n) = When.not-one g rs f n
-    passed (Sound covered at) (Comes.sound rs f d o s) = digest-of covered at refl rs f d o s (same (part xs at 32) (sha256 (take covered xs))) refl
+    passed (Sound covered at) (Comes.sound rs f d o s) = digest-of covered at refl rs f d o s (same (part xs at 32) (sha256
+        (take covered xs))) refl
 
   -- The check's answer is due.
   pub given : When xs (check xs)
@@ -139,7 +144,8 @@ module _ (xs : List ℕ) where
 -- ---- what is due is given
 
 module _ (xs : List ℕ) (g : GoodHeader xs) (rs : List Trailing) (f : Fills (recordsArea xs) rs) where
-  given-digest : (d : Trailing) → OneDigest rs d → check xs ≡ pick (same (d .bytes) (sha256 (take (coveredSize xs) xs))) Accepted (Rejected DigestDiffers)
+  given-digest : (d : Trailing) → OneDigest rs d → check xs ≡ pick (same (d .bytes) (sha256 (take (coveredSize xs) xs))) Accepted
+      (Rejected DigestDiffers)
   unfolding digestAt
   given-digest d o = by (structure xs) refl (comes xs g)
     where
@@ -226,7 +232,8 @@ only xs (Rejected HeaderSizes) (When.sum-above l m h) =
 only xs (Rejected RecordsArea) (When.not-filled g n) = given-not-filled xs g n
 only xs (Rejected DigestRecord) (When.not-one g rs f n) = given-not-one xs g rs f n
 only xs (Rejected DigestDiffers) (When.differs g rs f d o n) =
-    given-digest xs g rs f d o ∙ digest-not (d .bytes) (sha256 (take (coveredSize xs) xs)) n (same (d .bytes) (sha256 (take (coveredSize xs) xs))) refl
+    given-digest xs g rs f d o ∙ digest-not (d .bytes) (sha256 (take (coveredSize xs) xs)) n (same (d .bytes) (sha256 (take
+    (coveredSize xs) xs))) refl
 only xs Accepted (When.image i) =
     let s = says xs i in
     given-digest xs (s .good) (i .trailing) (s .fills) (i .digest) (record { only-one = i .only-one; of-32-bytes = i .of-32-bytes })

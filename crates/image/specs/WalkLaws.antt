@@ -59,8 +59,13 @@ module _ (xs : List ℕ) (at n place size : ℕ) where
   walk-digest start size' e =
       let w = whole-of xs 0 1 start size' e in
       let four : start ≡ 4 = w .start-is in
-      rw
-      (records-step xs, e, digests-one at (recordOf xs size') (records (drop (start + size') xs) .found) size' (record-sized xs 1 start size' w) (sym (w .kind-is)), four)
+      rw (
+        records-step xs,
+        e,
+        digests-one at (recordOf xs size') (records (drop (start + size') xs) .found) size'
+            (record-sized xs 1 start size' w) (sym (w .kind-is)),
+        four,
+      )
 
   pub walk-other : (kind start size' : ℕ) → (kind ≡ 1 → ⊥) → stepAt xs 0 ≡ Record kind start size'
       → walked (records xs) at n place size ≡ walked (records (drop (start + size') xs)) (at + (start + size')) n place size
@@ -69,7 +74,13 @@ module _ (xs : List ℕ) (at n place size : ℕ) where
       let w = whole-of xs 0 kind start size' e in
       let four : start ≡ 4 = w .start-is in
       let other : getD xs 0 0 ≡ 1 → ⊥ = λ f. d (w .kind-is ∙ f) in
-      rw (records-step xs, e, digests-other at (recordOf xs size') (records (drop (start + size') xs) .found) size' (record-sized xs kind start size' w) other, four)
+      rw (
+        records-step xs,
+        e,
+        digests-other at (recordOf xs size') (records (drop (start + size') xs) .found) size'
+            (record-sized xs kind start size' w) other,
+        four,
+      )
 
 -- ---- what the whole walk comes to
 
@@ -92,7 +103,8 @@ beyond at [] h = Beyond.none
 beyond at (r ∷ rs) h = by (eqb (r .kind) 1) (beyond (at + (4 + length (r .bytes))) rs (omega arith))
   where
     by : (t : Bool) → Beyond (digests (at + (4 + length (r .bytes))) rs)
-        → Beyond (pick t (record { at = at + 4; size = length (r .bytes) } ∷ digests (at + (4 + length (r .bytes))) rs) (digests (at + (4 + length (r .bytes))) rs))
+        → Beyond (pick t (record { at = at + 4; size = length (r .bytes) } ∷ digests (at + (4 + length (r .bytes))) rs) (digests
+        (at + (4 + length (r .bytes))) rs))
     by true b = let far : 4 < at + 4 = omega arith in Beyond.more far b
     by false b = b
 

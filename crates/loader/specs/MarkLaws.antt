@@ -59,7 +59,8 @@ module _ (g : Geometry) (x0 x1 x2 : List ℕ) (a : Marked) where
   pub marks-written : (p : Bool) (all : ℕ) (x1' : List ℕ) (r : Run) → all ≡ length (okOps (build g) slot1 p ++ magicOps (build g) slot1)
       → unmarked g (flashOf [] x1 []) ≡ true
       → local x1' r ≡ magicIn g (trailerSector (build g) slot1) (okIn g (trailerSector (build g) slot1) p (local x1 (going all)))
-      → (a .ending ≡ endingOf (r .end)) × (a .count ≡ all - r .left) → markResult a (flashOf x0 x1' x2) ≡ markUnlessMarked p g (flashOf x0 x1 x2)
+      → (a .ending ≡ endingOf (r .end)) × (a .count ≡ all - r .left) → markResult a (flashOf x0 x1' x2) ≡ markUnlessMarked p g
+      (flashOf x0 x1 x2)
   unfolding markUnlessMarked unmarked trailer
   marks-written p all x1' r n u e h =
       let ops : List Op = okOps (build g) slot1 p ++ magicOps (build g) slot1 in

@@ -58,7 +58,13 @@ carried g b f course = steps (build g) (listOf (build g) (okUnset (build g) f) c
 
 unfoldable pub answered : Bool → Geometry → ℕ → Course → State → Result
 answered checked g b course s = record {
-  answer = record { done = doneOf course; found = foundOf course; count = b - s .run .left; outcome = ended checked g (s .flash) (s .run .end) };
+  answer = record {
+    done = doneOf course;
+    found = foundOf course;
+    count = b - s .run .left;
+    outcome = ended checked g (s .flash)
+        (s .run .end);
+  };
   flash = s .flash;
 }
 

@@ -7,7 +7,7 @@ use native.Mathlib.Omega.{arith}
 use lib.ListN.{length}
 use lib.Dec.{eqb, leb}
 use borrow.Author.Tests.{leb-true}
-use Rattle.spans.specs.Choice.{pick}
+use Rattle.spans.specs.Choice.{pick, both}
 use Rattle.flash.specs.declared.Geometry.{Geometry}
 use Rattle.flash.specs.Build.{Build}
 use Rattle.flash.specs.Base.{build}
@@ -28,10 +28,6 @@ inBounds g Permanent = true
 inBounds g Revert = true
 inBounds g Clear = true
 inBounds g Nothing = true
-
-both : (a b : Bool) → (a && b) ≡ true → (a ≡ true) × (b ≡ true)
-both true b h = (refl, h)
-both false b h = let z : _≡_ {A = ℕ} 0 1 = cc in absurd (omega arith)
 
 pub resumed-bounds : (g : Geometry) (c : ℕ) → Small g → inBounds (build g) (Resume c) ≡ true → (3 ≤ c) × (c ≤ 3 * g .sectors)
 unfolding inBounds

@@ -40,7 +40,8 @@ stateC g t0 t1 =
     let ok1 = markOf g t1 (okAt g) in
     pick (isGood (magicOf g t1) && isUnset ok1) Test
     (pick (isGood (magicOf g t1) && hasValue 1 ok1) Permanent
-    (pick (isGood (magicOf g t0) && (isUnset (markOf g t0 (okAt g)) && (hasValue 1 (markOf g t0 (doneAt g)) && noMagic (magicOf g t1)))) Revert
+    (pick (isGood (magicOf g t0) && (isUnset (markOf g t0 (okAt g)) && (hasValue 1 (markOf g t0 (doneAt g)) && noMagic
+    (magicOf g t1)))) Revert
     Nothing))
 
 -- by the trailer sectors of slot 0, slot 1 and scratch

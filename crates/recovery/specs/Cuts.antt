@@ -1,5 +1,5 @@
 -- Lists of operations one after the other, carried out and cut.
-use mathlib.Core.Path.{_≡_, refl, ap, _∙_, subst}
+use mathlib.Core.Path.{_≡_, refl, subst}
 use mathlib.Core.Logic.{_⊎_, inl, inr}
 use mathlib.Core.List.{List, [], _∷_, _++_}
 use Prim.Native.Nat.{ℕ, zero, suc, _-_, _≤_, _<_}
@@ -13,16 +13,6 @@ pub runAll-append : (g : Build) (xs ys : List Op) (f : Flash) → runAll g (xs +
 unfolding runAll
 runAll-append g [] ys f = refl
 runAll-append g (x ∷ xs) ys f = runAll-append g xs ys (apply g x f)
-
--- the first b operations of two lists in a row
-pub run-append : (g : Build) (b : ℕ) (xs ys : List Op) (f : Flash)
-    → run g b (xs ++ ys) f ≡ run g (b - length xs) ys (run g b xs f)
-unfolding run
-run-append g zero xs ys f = let e : zero ≡ zero - length xs = omega arith in ap (λ (n : ℕ). run g n ys f) e
-run-append g (suc b) [] ys f = let e : suc b ≡ suc b - 0 = omega arith in ap (λ (n : ℕ). run g n ys f) e
-run-append g (suc b) (x ∷ xs) ys f =
-    let e : b - length xs ≡ suc b - suc (length xs) = omega arith in
-    run-append g b xs ys (apply g x f) ∙ ap (λ (n : ℕ). run g n ys (run g b xs (apply g x f))) e
 
 -- an allowance that is enough
 pub run-all : (g : Build) (b : ℕ) (ops : List Op) (f : Flash) → length ops ≤ b → run g b ops f ≡ runAll g ops f

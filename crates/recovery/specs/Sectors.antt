@@ -6,15 +6,14 @@ use Prim.Native.Nat.{ℕ, suc, _+_, _*_, _≤_, _<_}
 use native.Mathlib.Nat.{mul-le-mul-right}
 use native.Mathlib.Numerals.{lt-of-le-of-ne}
 use native.Mathlib.Omega.{arith}
-use lib.ListN.{take-append-drop, length, length-drop}
+use lib.ListN.{length, length-drop}
 use lib.Dec.{eqb, ltb}
 use borrow.Author.Tests.{eqb-true, eqb-false, ne-eqb, ltb-true, ltb-false}
 use Rattle.spans.specs.Bytes.{part, put, blank}
 use Rattle.spans.specs.Choice.{pick, both}
-use Rattle.spans.specs.Laws.{length-blank, part-put, part-put-before, part-put-after, pieces}
+use Rattle.spans.specs.Laws.{length-blank, part-put, part-put-before, part-put-after}
 use Rattle.flash.specs.declared.Sector.{Sector}
-use Rattle.flash.specs.Geometry.{sectorNo}
-use Rattle.flash.specs.Build.{Area, slot0, slot1, scratch, Build, Move, Flash, area, sameArea, dataSectors, trailerSector}
+use Rattle.flash.specs.Build.{Area, slot0, slot1, Build, Move, Flash, area, sameArea, dataSectors, trailerSector}
 use Rattle.flash.specs.Operations.{store}
 use Rattle.flash.specs.AreaLaws.{same-area, unseen, area-store}
 use Rattle.trailer.specs.Trailer.{trailer}
@@ -146,17 +145,3 @@ module _ {g : Build} (geo : Geo g) where
       past : (x : Flash) → sectorOf g x b k ≡ sectorOf g (wipeTrailer g slot1 x) b k
       past x = sym (sector-else slot1 b (trailerSector g slot1) k (blank (g .sector)) x (length-blank (g .sector))
           (trailer-else slot1 b k h))
-
--- a flash is its data sectors and its trailer sectors
-pub flash-ext : (g : Build) (f f' : Flash)
-    → ((a : Area) (i : Sector) → i .0 < dataSectors g a → sectorOf g f a i ≡ sectorOf g f' a i)
-    → ((a : Area) → trailer g a f ≡ trailer g a f') → f ≡ f'
-unfolding sectorOf trailer
-flash-ext g f f' h t i = record { in0 = whole slot0 i; in1 = whole slot1 i; in2 = whole scratch i }
-  where
-    whole : (a : Area) → area a f ≡ area a f'
-    whole a =
-        let n : ℕ = dataSectors g a * g .sector in
-        sym (take-append-drop n (area a f))
-        ∙ ap₂ (λ (x y : List ℕ). x ++ y) (pieces (g .sector) (dataSectors g a) (area a f) (area a f') (λ i. h a (sectorNo i))) (t a)
-        ∙ take-append-drop n (area a f')

@@ -1,7 +1,7 @@
 -- What a valid geometry gives.
 use mathlib.Core.Path.{_≡_, refl, sym, ap, _∙_, subst}
 use mathlib.Core.List.{List}
-use mathlib.Core.Bool.{Bool, true, false, false≢true}
+use mathlib.Core.Bool.{Bool, true, false, false≢true, _||_}
 use Prim.Native.Nat.{ℕ, suc, _+_, _*_, _-_, _%_, _≤_, _<_}
 use Prim.Native.Nat.{_∣_}
 use native.Mathlib.Nat.{dvd-of-mod-eq-zero, mul-le-mul-right}

@@ -21,7 +21,8 @@ unfolding result
 result-below H =
     let half : (a b c d : ℕ) → Below 256 (bytesOf 4 a ++ bytesOf 4 b ++ bytesOf 4 c ++ bytesOf 4 d) = λ a b c d.
     below-append (below-append (below-append (below-bytesOf 4 a) (below-bytesOf 4 b)) (below-bytesOf 4 c)) (below-bytesOf 4 d) in
-    below-append (below-append (below-append (below-append (half (H .a) (H .b) (H .c) (H .d)) (below-bytesOf 4 (H .e))) (below-bytesOf 4 (H .f)))
+    below-append (below-append (below-append (below-append (half (H .a) (H .b) (H .c) (H .d)) (below-bytesOf 4 (H .e)))
+    (below-bytesOf 4 (H .f)))
     (below-bytesOf 4 (H .g))) (below-bytesOf 4 (H .h))
 
 pub sha256-below : (m : List ℕ) → Below 256 (sha256 m)

@@ -80,7 +80,8 @@ module _ (m : List ℕ) (from rest count : ℕ) (whole : from + rest ≡ length 
     ending =
         let L : List ℕ = bytesOf 8 (8 * length m) in
         let e : 64 * count ≡ 64 * count - 8 + length L = omega (arith, length-bytesOf 8 (8 * length m)) in
-        let l : 64 * count ≤ length (begun ++ replicate (n - length begun) 0) = simp (length-append, length-replicate) (omega (arith, length-begun)) in
+        let l : 64 * count ≤ length (begun ++ replicate (n - length begun) 0) = simp (length-append, length-replicate) (omega
+        (arith, length-begun)) in
         ap (λ (x : List ℕ). take (64 * count) (put x (64 * count - 8) L)) put-begun
         ∙ take-put (begun ++ replicate (n - length begun) 0) (64 * count - 8) L (64 * count) e l
         ∙ ap (λ (x : List ℕ). x ++ L) take-begun ∙ sym drop-pad

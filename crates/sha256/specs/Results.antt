@@ -15,7 +15,8 @@ abbrev pub four : ℕ → ℕ → ℕ → ℕ → List ℕ
 four a b c d = bytesOf 4 a ++ bytesOf 4 b ++ bytesOf 4 c ++ bytesOf 4 d
 
 pub put-words : (xs : List ℕ) (at a b c d : ℕ)
-    → put (put (put (put xs at (bytesOf 4 a)) (at + 4) (bytesOf 4 b)) (at + 8) (bytesOf 4 c)) (at + 12) (bytesOf 4 d) ≡ put xs at (four a b c d)
+    → put (put (put (put xs at (bytesOf 4 a)) (at + 4) (bytesOf 4 b)) (at + 8) (bytesOf 4 c)) (at + 12) (bytesOf 4 d) ≡ put xs at
+    (four a b c d)
 unfolding bytesOf
 put-words xs at a b c d =
     rw (put-on xs at (bytesOf 4 a) (bytesOf 4 b) (at + 4) refl, put-on xs at (bytesOf 4 a ++ bytesOf 4 b) (bytesOf 4 c) (at + 8) refl)

@@ -34,7 +34,16 @@ or-none d a b = go (eqb d 0) (eqb a b) refl refl
     go true false hp hq =
         let n = eqb-false a b hq in
         ne-eqb (bitOr d (bitXor a b)) 0
-        (λ e. n (omega (arith, or-add-and d (bitXor a b), and-le-l d (bitXor a b), and-le-r d (bitXor a b), xor-add-and a b, and-le-l a b, and-le-r a b)))
+        (λ e. n (omega (
+          arith,
+          or-add-and d (bitXor a b),
+          and-le-l d (bitXor a b),
+          and-le-r d
+              (bitXor a b),
+          xor-add-and a b,
+          and-le-l a b,
+          and-le-r a b,
+        )))
     go false q hp hq =
         let n = eqb-false d 0 hp in
         ne-eqb (bitOr d (bitXor a b)) 0

@@ -115,7 +115,8 @@ unfolding part
 part-put-before xs at ys b len h =
     let e : at ≡ b + (at - b) = omega arith in
     let k : len ≤ at - b = omega arith in
-    ap (λ (o : ℕ). take len (drop b (put xs o ys))) e ∙ ap (take len) (drop-put xs b (at - b) ys) ∙ take-put-before (drop b xs) len (at - b) ys k
+    ap (λ (o : ℕ). take len (drop b (put xs o ys))) e ∙ ap (take len) (drop-put xs b (at - b) ys) ∙ take-put-before (drop b xs) len
+    (at - b) ys k
 
 pub part-put-after : (xs : List ℕ) (at : ℕ) (ys : List ℕ) (b len : ℕ) → at + length ys ≤ b → part (put xs at ys) b len ≡ part xs b len
 unfolding part
@@ -217,4 +218,5 @@ pub copy-next : (xs : List ℕ) (at : ℕ) (src : List ℕ) (from i : ℕ) → f
     → set (put xs at (part src from i)) (at + i) (getD src (from + i) 0) ≡ put xs at (part src from (i + 1))
 copy-next xs at src from i h =
     let e : at + i ≡ at + length (part src from i) = ap (λ (n : ℕ). at + n) (sym (length-part src from i (omega arith))) in
-    put-next xs at (part src from i) (getD src (from + i) 0) (at + i) e ∙ ap (put xs at) (part-next src from i h ∙ ap (part src from) (sym (add-one i)))
+    put-next xs at (part src from i) (getD src (from + i) 0) (at + i) e ∙ ap (put xs at) (part-next src from i h ∙ ap
+    (part src from) (sym (add-one i)))

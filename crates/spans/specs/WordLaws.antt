@@ -35,7 +35,8 @@ number-part : (xs : List ℕ) (at n next : ℕ) → next ≡ at + 1 → at + suc
 unfolding number
 number-part xs at n next e h =
     let l : at < length xs = omega arith in
-    rw (part-cons xs at n l, e) (ap (λ (k : ℕ). getD xs at 0 * 2 ^ (8 * k) + number (part xs (at + 1) n)) (length-part xs (at + 1) n (omega arith)))
+    rw (part-cons xs at n l, e) (ap (λ (k : ℕ). getD xs at 0 * 2 ^ (8 * k) + number (part xs (at + 1) n)) (length-part xs (at + 1) n
+    (omega arith)))
 
 pub number-four : (xs : List ℕ) (at : ℕ) → at + 4 ≤ length xs
     → number (part xs at 4) ≡ getD xs at 0 * 16777216 + getD xs (at + 1) 0 * 65536 + getD xs (at + 2) 0 * 256 + getD xs (at + 3) 0

@@ -25,15 +25,28 @@ count-blank-requires c κs = search needs
 
 returns : tie.Need-returns
 returns c =
-    let full : same (part (c .before .before .before .before .before .args .area .now) (placeOf (c .before .before .before .before .before .args .g) (c .before .before .before .before .before .args .u) .0) (c .before .before .before .before .before .args .n * c .before .before .before .before .before .args .g .unit)) (blank (c .before .before .before .before .before .args .n * c .before .before .before .before .before .args .g .unit)) ≡ true =
-    sym (ap₂ (λ (o p : Offset). same (part (c .before .before .before .before .before .args .area .now) (o .0) (p .0)) (blank (p .0))) (c .before .before .before .place-of .ensures) (c .before .before .place-of2 .ensures))
+    let full : same (part (c .before .before .before .before .before .args .area .now) (placeOf
+    (c .before .before .before .before .before .args .g) (c .before .before .before .before .before .args .u) .0)
+    (c .before .before .before .before .before .args .n * c .before .before .before .before .before .args .g .unit)) (blank
+    (c .before .before .before .before .before .args .n * c .before .before .before .before .before .args .g .unit)) ≡ true =
+    sym (ap₂ (λ (o p : Offset). same (part (c .before .before .before .before .before .args .area .now) (o .0) (p .0)) (blank
+    (p .0))) (c .before .before .before .place-of .ensures) (c .before .before .place-of2 .ensures))
     ∙ sym (c .before .all-blank .ensures) ∙ c .if1 .taken in
-    let all = same-eq (part (c .before .before .before .before .before .args .area .now) (placeOf (c .before .before .before .before .before .args .g) (c .before .before .before .before .before .args .u) .0) (c .before .before .before .before .before .args .n * c .before .before .before .before .before .args .g .unit)) (blank (c .before .before .before .before .before .args .n * c .before .before .before .before .before .args .g .unit)) full in
-    (sym (blank-run-all (c .before .before .before .before .before .args .g) (c .before .before .before .before .before .args .n) (c .before .before .before .before .before .args .u) (c .before .before .before .before .before .args .area .now) all), omega arith)
+    let all = same-eq (part (c .before .before .before .before .before .args .area .now) (placeOf
+    (c .before .before .before .before .before .args .g) (c .before .before .before .before .before .args .u) .0)
+    (c .before .before .before .before .before .args .n * c .before .before .before .before .before .args .g .unit)) (blank
+    (c .before .before .before .before .before .args .n * c .before .before .before .before .before .args .g .unit)) full in (
+      sym (blank-run-all (c .before .before .before .before .before .args .g) (c .before .before .before .before .before .args .n)
+          (c .before .before .before .before .before .args .u)
+          (c .before .before .before .before .before .args .area .now) all),
+      omega arith,
+    )
 
 returns-2 : tie.Need-returns-2
 returns-2 c =
-    let l = blank-run-le (c .before .before .before .before .before .before .args .g) (c .before .before .before .before .before .before .args .n) (c .before .before .before .before .before .before .args .u) (c .before .before .before .before .before .before .args .area .now) in
+    let l = blank-run-le (c .before .before .before .before .before .before .args .g)
+    (c .before .before .before .before .before .before .args .n) (c .before .before .before .before .before .before .args .u)
+    (c .before .before .before .before .before .before .args .area .now) in
     (c .count-blank .ensures, omega (arith, l, c .count-blank .ensures))
 
 pub blank-units-spec : {M : Type 1} → statement M

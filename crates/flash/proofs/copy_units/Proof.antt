@@ -29,11 +29,24 @@ same-length c = search needs
 
 returns : tie.Need-returns
 returns c =
-    copied (c .before .before .before .before .before .before .before .before .before .before .before .before .args .g) (c .before .before .before .before .before .before .before .before .before .before .before .before .args .units) (c .before .before .before .before .before .before .before .before .before .before .before .before .args .to) (c .before .before .before .before .before .before .before .before .before .before .before .before .args .src .now) (c .before .before .before .before .before .before .before .before .before .before .before .before .args .from .0) (c .before .before .before .before .before .before .before .before .before .before .before .before .args .dst .now) (c .before .before .before .before .before .before .before .before .before .before .before .before .args .left)
-    (c .before .before .before .before .before .before .before .before .before .reach .result) (c .before .before .before .before .before .before .before .blank-units .result) _ (c .settled .result)
-    (c .before .before .before .before .before .before .before .before .before .reach .ensures) (c .before .before .before .before .before .before .before .blank-units .ensures .0)
+    copied (c .before .before .before .before .before .before .before .before .before .before .before .before .args .g)
+    (c .before .before .before .before .before .before .before .before .before .before .before .before .args .units)
+    (c .before .before .before .before .before .before .before .before .before .before .before .before .args .to)
+    (c .before .before .before .before .before .before .before .before .before .before .before .before .args .src .now)
+    (c .before .before .before .before .before .before .before .before .before .before .before .before .args .from .0)
+    (c .before .before .before .before .before .before .before .before .before .before .before .before .args .dst .now)
+    (c .before .before .before .before .before .before .before .before .before .before .before .before .args .left)
+    (c .before .before .before .before .before .before .before .before .before .reach .result)
+    (c .before .before .before .before .before .before .before .blank-units .result) _ (c .settled .result)
+    (c .before .before .before .before .before .before .before .before .before .reach .ensures)
+    (c .before .before .before .before .before .before .before .blank-units .ensures .0)
     (c .before .before .before .copy .ensures
-    ∙ ap₂ (λ (o p : Offset). put (c .before .before .before .before .before .before .before .before .before .before .before .before .args .dst .now) (o .0) (part (c .before .before .before .before .before .before .before .before .before .before .before .before .args .src .now) (c .before .before .before .before .before .before .before .before .before .before .before .before .args .from .0) (p .0))) (c .before .before .before .before .before .before .place-of .ensures) (c .before .before .before .before .before .place-of2 .ensures))
+    ∙ ap₂ (λ (o p : Offset). put
+    (c .before .before .before .before .before .before .before .before .before .before .before .before .args .dst .now) (o .0) (part
+    (c .before .before .before .before .before .before .before .before .before .before .before .before .args .src .now)
+    (c .before .before .before .before .before .before .before .before .before .before .before .before .args .from .0) (p .0)))
+    (c .before .before .before .before .before .before .place-of .ensures)
+    (c .before .before .before .before .before .place-of2 .ensures))
     (c .settled .ensures .0) (c .settled .ensures .1)
 
 pub copy-units-spec : {M : Type 1} → statement M

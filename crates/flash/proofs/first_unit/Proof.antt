@@ -10,7 +10,11 @@ div-t3 c = search needs
 
 mul-t4 : tie.Need-mul-t4
 mul-t4 c =
-    let q : c .before .before .args .g .sector / c .before .before .args .g .unit ≤ 65536 = omega (arith, div-le-self (c .before .before .args .g .sector) (c .before .before .args .g .unit)) in
+    let q : c .before .before .args .g .sector / c .before .before .args .g .unit ≤ 65536 = omega (
+      arith,
+      div-le-self
+          (c .before .before .args .g .sector) (c .before .before .args .g .unit),
+    ) in
     omega (arith, mul-le-mul {n₁ = c .before .before .args .i .0} {m₁ = c .before .before .args .g .sector / c .before .before .args .g .unit} {n₂ = 128} {m₂ = 65536} (omega arith) (omega arith))
 
 returns : tie.Need-returns

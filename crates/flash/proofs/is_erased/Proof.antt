@@ -16,7 +16,8 @@ returns : tie.Need-returns
 unfolding erased
 returns c =
     c .all-blank .ensures
-    ∙ ap (λ (o : Offset). same (part (c .before .before .before .args .area .now) (o .0) (c .before .before .before .args .g .unit)) (blank (c .before .before .before .args .g .unit))) (c .before .place-of .ensures)
+    ∙ ap (λ (o : Offset). same (part (c .before .before .before .args .area .now) (o .0) (c .before .before .before .args .g .unit))
+    (blank (c .before .before .before .args .g .unit))) (c .before .place-of .ensures)
 
 pub is-erased-spec : {M : Type 1} → statement M
 is-erased-spec = tie.close (tie.spec place-of-requires all-blank-requires returns)

@@ -9,22 +9,45 @@ use Rattle.flash.proofs.lengths_taken.Statement.{statement}
 use Rattle.flash.proofs.lengths_taken.Tie as tie
 
 mul-slot : tie.Need-mul-slot
-mul-slot c = omega (arith, mul-le-mul {n₁ = c .before .args .g .sectors} {m₁ = c .before .args .g .sector} {n₂ = 128} {m₂ = 65536} (omega arith) (omega arith))
+mul-slot c =
+    omega (
+      arith,
+      mul-le-mul {n₁ = c .before .args .g .sectors} {m₁ = c .before .args .g .sector} {n₂ = 128} {m₂ = 65536}
+          (omega arith) (omega arith),
+    )
 
 returns : tie.Need-returns
 unfolding lengthsAsked every
-returns c = rw (ne-eqb (c .before .before .args .l0) (c .before .before .args .g .sectors * c .before .before .args .g .sector) (c .if1 .taken))
+returns c =
+    rw (ne-eqb (c .before .before .args .l0) (c .before .before .args .g .sectors * c .before .before .args .g .sector)
+    (c .if1 .taken))
 
 returns-2 : tie.Need-returns-2
 unfolding lengthsAsked every
-returns-2 c = rw (eq-eqb (c .before .before .before .args .l0) (c .before .before .before .args .g .sectors * c .before .before .before .args .g .sector) (c .before .if1 .left), ne-eqb (c .before .before .before .args .l1) (c .before .before .before .args .g .sectors * c .before .before .before .args .g .sector) (c .if2 .taken))
+returns-2 c =
+    rw (
+      eq-eqb (c .before .before .before .args .l0)
+          (c .before .before .before .args .g .sectors * c .before .before .before .args .g .sector) (c .before .if1 .left),
+      ne-eqb
+          (c .before .before .before .args .l1)
+          (c .before .before .before .args .g .sectors * c .before .before .before .args .g .sector) (c .if2 .taken),
+    )
 
 mul-result : tie.Need-mul-result
 mul-result c = search needs
 
 returns-3 : tie.Need-returns-3
 unfolding lengthsAsked every
-returns-3 c = rw (eq-eqb (c .before .before .before .before .args .l0) (c .before .before .before .before .args .g .sectors * c .before .before .before .before .args .g .sector) (c .before .before .if1 .left), eq-eqb (c .before .before .before .before .args .l1) (c .before .before .before .before .args .g .sectors * c .before .before .before .before .args .g .sector) (c .before .if2 .left), and-true)
+returns-3 c =
+    rw (
+      eq-eqb (c .before .before .before .before .args .l0)
+          (c .before .before .before .before .args .g .sectors * c .before .before .before .before .args .g .sector)
+          (c .before .before .if1 .left),
+      eq-eqb (c .before .before .before .before .args .l1)
+          (c .before .before .before .before .args .g .sectors * c .before .before .before .before .args .g .sector)
+          (c .before .if2 .left),
+      and-true,
+    )
 
 pub lengths-taken-spec : {M : Type 1} → statement M
 lengths-taken-spec = tie.close (tie.spec mul-slot returns returns-2 mul-result returns-3)

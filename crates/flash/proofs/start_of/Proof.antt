@@ -5,7 +5,12 @@ use Rattle.flash.proofs.start_of.Statement.{statement}
 use Rattle.flash.proofs.start_of.Tie as tie
 
 mul-t3 : tie.Need-mul-t3
-mul-t3 c = omega (arith, mul-le-mul {n₁ = c .before .before .args .i .0} {m₁ = c .before .before .args .g .sector} {n₂ = 128} {m₂ = 65536} (omega arith) (omega arith))
+mul-t3 c =
+    omega (
+      arith,
+      mul-le-mul {n₁ = c .before .before .args .i .0} {m₁ = c .before .before .args .g .sector} {n₂ = 128} {m₂ = 65536}
+          (omega arith) (omega arith),
+    )
 
 returns : tie.Need-returns
 returns c = search needs

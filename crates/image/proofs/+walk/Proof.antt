@@ -32,11 +32,13 @@ callees t = (step-at-reads.Asked, step-at-reads.Learnt, only-digest-reads.Asked,
 
 -- a record was found: its bytes lie in the area
 told : (t : ℕ) (c : walk-lts.After-known-told (callees t) (walk-at t) walk.Post)
-    → stepAt (c .before .before .before .before .before .args .area .now .now) 0 ≡ Record (c .before .kind .given .0 .0) (c .before .kind .given .0 .1 .0) (c .before .kind .given .0 .1 .1 .0)
+    → stepAt (c .before .before .before .before .before .args .area .now .now) 0 ≡ Record (c .before .kind .given .0 .0)
+    (c .before .kind .given .0 .1 .0) (c .before .kind .given .0 .1 .1 .0)
 told t c = sym (c .before .before .before .step-at .ensures) ∙ c .before .kind .given .1
 
 found : (t : ℕ) (c : walk-lts.After-known-told (callees t) (walk-at t) walk.Post)
-    → Whole (c .before .before .before .before .before .args .area .now .now) 0 (c .before .kind .given .0 .0) (c .before .kind .given .0 .1 .0) (c .before .kind .given .0 .1 .1 .0)
+    → Whole (c .before .before .before .before .before .args .area .now .now) 0 (c .before .kind .given .0 .0)
+    (c .before .kind .given .0 .1 .0) (c .before .kind .given .0 .1 .1 .0)
 found t c = whole-of _ 0 _ _ _ (told t c)
 
 walk-step-at-requires : (t : ℕ) → walk-lts.Need-step-at-requires (callees t) (walk-at t) walk.Post
@@ -79,7 +81,11 @@ walk-walk-requires : (t : ℕ) → walk-lts.Need-walk-requires (callees t) (walk
 walk-walk-requires t c κs =
     let w = found t (c .before .before .before) in
     let g = c .before .before .before .before .kind .given .0 in
-    omega (arith, length-rest (c .before .before .before .before .before .before .before .before .args .area .now .now) (g .1 .0 + g .1 .1 .0))
+    omega (
+      arith,
+      length-rest (c .before .before .before .before .before .before .before .before .args .area .now .now)
+          (g .1 .0 + g .1 .1 .0),
+    )
 
 walk-add-walk-4 : (t : ℕ) → walk-lts.Need-add-walk-4 (callees t) (walk-at t) walk.Post
 walk-add-walk-4 t c = let w = found t (c .before .before .before) in omega arith
@@ -88,7 +94,11 @@ walk-walk-requires-2 : (t : ℕ) → walk-lts.Need-walk-requires-2 (callees t) (
 walk-walk-requires-2 t c κs =
     let w = found t (c .before .before .before) in
     let g = c .before .before .before .before .kind .given .0 in
-    omega (arith, length-rest (c .before .before .before .before .before .before .before .before .args .area .now .now) (g .1 .0 + g .1 .1 .0))
+    omega (
+      arith,
+      length-rest (c .before .before .before .before .before .before .before .before .args .area .now .now)
+          (g .1 .0 + g .1 .1 .0),
+    )
 
 walk-returns : (t : ℕ) → walk-lts.Need-returns (callees t) (walk-at t) walk.Post
 walk-returns t c =
@@ -109,8 +119,11 @@ walk-returns-3 t c =
     let g = c .before .before .before .before .before .kind .given .0 in
     let one : g .0 ≡ 1 = c .before .before .if1 .taken in
     let e : stepAt (a .area .now .now) 0 ≡ Record 1 (g .1 .0) (g .1 .1 .0) = rw one at (told t (c .before .before .before .before)) in
-    cc
-    (walk-digest (a .area .now .now) (a .at) (a .digests) (a .place) (a .size) (g .1 .0) (g .1 .1 .0) e, rest-is (a .area .now .now) (g .1 .0 + g .1 .1 .0))
+    cc (
+      walk-digest (a .area .now .now) (a .at) (a .digests) (a .place) (a .size) (g .1 .0) (g .1 .1 .0) e,
+      rest-is (a .area .now .now)
+          (g .1 .0 + g .1 .1 .0),
+    )
 
 walk-returns-4 : (t : ℕ) → walk-lts.Need-returns-4 (callees t) (walk-at t) walk.Post
 walk-returns-4 t c =
@@ -118,7 +131,8 @@ walk-returns-4 t c =
     let g = c .before .before .before .before .before .kind .given .0 in
     let e = told t (c .before .before .before .before) in
     cc (
-      walk-other (a .area .now .now) (a .at) (a .digests) (a .place) (a .size) (g .0) (g .1 .0) (g .1 .1 .0) (c .before .before .if1 .left) e,
+      walk-other (a .area .now .now) (a .at) (a .digests) (a .place) (a .size) (g .0) (g .1 .0) (g .1 .1 .0)
+          (c .before .before .if1 .left) e,
       rest-is (a .area .now .now) (g .1 .0 + g .1 .1 .0),
     )
 

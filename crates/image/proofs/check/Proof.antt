@@ -17,7 +17,8 @@ enum-known-covered c = search needs
 digest-at-requires : tie.Need-digest-at-requires
 digest-at-requires c κs =
     let g = c .before .covered .given in
-    let w = sound-within (c .before .before .before .before .before .args .image .now) (g .0 .0) (g .0 .1 .0) (sym (c .before .before .before .structure .ensures) ∙ g .1) in
+    let w = sound-within (c .before .before .before .before .before .args .image .now) (g .0 .0) (g .0 .1 .0) (sym
+    (c .before .before .before .structure .ensures) ∙ g .1) in
     (w .least, w .covers)
 
 returns : tie.Need-returns

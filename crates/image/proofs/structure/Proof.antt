@@ -13,7 +13,8 @@ use Rattle.image.proofs.structure.Tie as tie
 
 -- the header was good, and these are its sizes
 sized : (c : tie.After-known-told2)
-    → Sizes (c .before .before .before .before .before .args .image .now) (c .before .header .given .0 .0) (c .before .header .given .0 .1 .0) (c .before .header .given .0 .1 .1 .0)
+    → Sizes (c .before .before .before .before .before .args .image .now) (c .before .header .given .0 .0)
+    (c .before .header .given .0 .1 .0) (c .before .header .given .0 .1 .1 .0)
 sized c = sizes-of _ _ _ _ (sym (c .before .before .before .head .ensures) ∙ c .before .header .given .1)
 
 head-requires : tie.Need-head-requires
@@ -50,7 +51,8 @@ layout-of-requires c κs =
     let f = s .good in
     let a = c .before .before .before .before .before .before .args in
     let g = c .before .before .header .given .0 in
-    let l : length (part (a .image .now) (g .0 + g .1 .0) (g .1 .1 .0)) ≡ g .1 .1 .0 = length-part (a .image .now) (g .0 + g .1 .0) (g .1 .1 .0) (omega arith) in
+    let l : length (part (a .image .now) (g .0 + g .1 .0) (g .1 .1 .0)) ≡ g .1 .1 .0 = length-part (a .image .now) (g .0 + g .1 .0)
+    (g .1 .1 .0) (omega arith) in
     rw (part-is (a .image .now) (g .0 + g .1 .0) (g .1 .1 .0)) (omega arith)
 
 returns : tie.Need-returns

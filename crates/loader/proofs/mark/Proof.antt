@@ -17,7 +17,12 @@ taken-requires : tie.Need-taken-requires
 taken-requires c κs = search needs
 
 mark-taken-requires : tie.Need-mark-taken-requires
-mark-taken-requires c κs = small-fits (c .before .before .before .before .before .before .args .g) (length (c .before .before .before .before .before .before .args .slot0 .now)) (length (c .before .before .before .before .before .before .args .slot1 .now)) (length (c .before .before .before .before .before .before .args .scratch .now)) (sym (c .before .before .taken .ensures) ∙ c .before .if1 .taken)
+mark-taken-requires c κs =
+    small-fits (c .before .before .before .before .before .before .args .g) (length
+    (c .before .before .before .before .before .before .args .slot0 .now)) (length
+    (c .before .before .before .before .before .before .args .slot1 .now)) (length
+    (c .before .before .before .before .before .before .args .scratch .now)) (sym (c .before .before .taken .ensures)
+    ∙ c .before .if1 .taken)
 
 refuse-requires : tie.Need-refuse-requires
 refuse-requires c κs = search needs
@@ -28,14 +33,55 @@ same-length c = search needs
 returns : tie.Need-returns
 unfolding marking unlessRefused valid
 returns c =
-    let fit : fits (build (c .before .before .before .before .before .before .before .before .before .args .g)) (length (c .before .before .before .before .before .before .before .before .before .args .slot0 .now)) (length (c .before .before .before .before .before .before .before .before .before .args .slot1 .now)) (length (c .before .before .before .before .before .before .before .before .before .args .scratch .now)) ≡ true = sym (c .before .before .before .before .before .taken .ensures) ∙ c .before .before .before .before .if1 .taken in
-    c .before .before .mark-taken .ensures ∙ ap (λ (b : Bool). pick b (unlessUnderWay (askedBy (c .before .before .before .before .before .before .before .before .before .args .g) (flashOf (c .before .before .before .before .before .before .before .before .before .args .slot0 .now) (c .before .before .before .before .before .before .before .before .before .args .slot1 .now) (c .before .before .before .before .before .before .before .before .before .args .scratch .now))) (flashOf (c .before .before .before .before .before .before .before .before .before .args .slot0 .now) (c .before .before .before .before .before .before .before .before .before .args .slot1 .now) (c .before .before .before .before .before .before .before .before .before .args .scratch .now)) (markUnlessMarked (c .before .before .before .before .before .before .before .before .before .args .permanent) (c .before .before .before .before .before .before .before .before .before .args .g) (flashOf (c .before .before .before .before .before .before .before .before .before .args .slot0 .now) (c .before .before .before .before .before .before .before .before .before .args .slot1 .now) (c .before .before .before .before .before .before .before .before .before .args .scratch .now)))) (refusedMark Refusal.Geometry (flashOf (c .before .before .before .before .before .before .before .before .before .args .slot0 .now) (c .before .before .before .before .before .before .before .before .before .args .slot1 .now) (c .before .before .before .before .before .before .before .before .before .args .scratch .now)))) (sym fit)
+    let fit : fits (build (c .before .before .before .before .before .before .before .before .before .args .g)) (length
+    (c .before .before .before .before .before .before .before .before .before .args .slot0 .now)) (length
+    (c .before .before .before .before .before .before .before .before .before .args .slot1 .now)) (length
+    (c .before .before .before .before .before .before .before .before .before .args .scratch .now)) ≡ true = sym
+    (c .before .before .before .before .before .taken .ensures) ∙ c .before .before .before .before .if1 .taken in
+    c .before .before .mark-taken .ensures ∙ ap (λ (b : Bool). pick b (unlessUnderWay (askedBy
+    (c .before .before .before .before .before .before .before .before .before .args .g) (flashOf
+    (c .before .before .before .before .before .before .before .before .before .args .slot0 .now)
+    (c .before .before .before .before .before .before .before .before .before .args .slot1 .now)
+    (c .before .before .before .before .before .before .before .before .before .args .scratch .now))) (flashOf
+    (c .before .before .before .before .before .before .before .before .before .args .slot0 .now)
+    (c .before .before .before .before .before .before .before .before .before .args .slot1 .now)
+    (c .before .before .before .before .before .before .before .before .before .args .scratch .now)) (markUnlessMarked
+    (c .before .before .before .before .before .before .before .before .before .args .permanent)
+    (c .before .before .before .before .before .before .before .before .before .args .g) (flashOf
+    (c .before .before .before .before .before .before .before .before .before .args .slot0 .now)
+    (c .before .before .before .before .before .before .before .before .before .args .slot1 .now)
+    (c .before .before .before .before .before .before .before .before .before .args .scratch .now)))) (refusedMark Refusal.Geometry
+    (flashOf (c .before .before .before .before .before .before .before .before .before .args .slot0 .now)
+    (c .before .before .before .before .before .before .before .before .before .args .slot1 .now)
+    (c .before .before .before .before .before .before .before .before .before .args .scratch .now)))) (sym fit)
 
 returns-2 : tie.Need-returns-2
 unfolding marking unlessRefused valid
 returns-2 c =
-    let fit : fits (build (c .before .before .before .before .before .before .args .g)) (length (c .before .before .before .before .before .before .args .slot0 .now)) (length (c .before .before .before .before .before .before .args .slot1 .now)) (length (c .before .before .before .before .before .before .args .scratch .now)) ≡ false = sym (c .before .before .taken .ensures) ∙ c .before .if1 .left in
-    refusing-mark (c .refuse .result) Refusal.Geometry (flashOf (c .before .before .before .before .before .before .args .slot0 .now) (c .before .before .before .before .before .before .args .slot1 .now) (c .before .before .before .before .before .before .args .scratch .now)) (c .refuse .ensures) ∙ ap (λ (b : Bool). pick b (unlessUnderWay (askedBy (c .before .before .before .before .before .before .args .g) (flashOf (c .before .before .before .before .before .before .args .slot0 .now) (c .before .before .before .before .before .before .args .slot1 .now) (c .before .before .before .before .before .before .args .scratch .now))) (flashOf (c .before .before .before .before .before .before .args .slot0 .now) (c .before .before .before .before .before .before .args .slot1 .now) (c .before .before .before .before .before .before .args .scratch .now)) (markUnlessMarked (c .before .before .before .before .before .before .args .permanent) (c .before .before .before .before .before .before .args .g) (flashOf (c .before .before .before .before .before .before .args .slot0 .now) (c .before .before .before .before .before .before .args .slot1 .now) (c .before .before .before .before .before .before .args .scratch .now)))) (refusedMark Refusal.Geometry (flashOf (c .before .before .before .before .before .before .args .slot0 .now) (c .before .before .before .before .before .before .args .slot1 .now) (c .before .before .before .before .before .before .args .scratch .now)))) (sym fit)
+    let fit : fits (build (c .before .before .before .before .before .before .args .g)) (length
+    (c .before .before .before .before .before .before .args .slot0 .now)) (length
+    (c .before .before .before .before .before .before .args .slot1 .now)) (length
+    (c .before .before .before .before .before .before .args .scratch .now)) ≡ false = sym (c .before .before .taken .ensures)
+    ∙ c .before .if1 .left in
+    refusing-mark (c .refuse .result) Refusal.Geometry (flashOf
+    (c .before .before .before .before .before .before .args .slot0 .now)
+    (c .before .before .before .before .before .before .args .slot1 .now)
+    (c .before .before .before .before .before .before .args .scratch .now)) (c .refuse .ensures) ∙ ap (λ (b : Bool). pick b
+    (unlessUnderWay (askedBy (c .before .before .before .before .before .before .args .g) (flashOf
+    (c .before .before .before .before .before .before .args .slot0 .now)
+    (c .before .before .before .before .before .before .args .slot1 .now)
+    (c .before .before .before .before .before .before .args .scratch .now))) (flashOf
+    (c .before .before .before .before .before .before .args .slot0 .now)
+    (c .before .before .before .before .before .before .args .slot1 .now)
+    (c .before .before .before .before .before .before .args .scratch .now)) (markUnlessMarked
+    (c .before .before .before .before .before .before .args .permanent)
+    (c .before .before .before .before .before .before .args .g) (flashOf
+    (c .before .before .before .before .before .before .args .slot0 .now)
+    (c .before .before .before .before .before .before .args .slot1 .now)
+    (c .before .before .before .before .before .before .args .scratch .now)))) (refusedMark Refusal.Geometry (flashOf
+    (c .before .before .before .before .before .before .args .slot0 .now)
+    (c .before .before .before .before .before .before .args .slot1 .now)
+    (c .before .before .before .before .before .before .args .scratch .now)))) (sym fit)
 
 pub mark-spec : {M : Type 1} → statement M
 mark-spec =

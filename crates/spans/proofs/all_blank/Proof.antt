@@ -14,7 +14,10 @@ blank-within-requires : tie.Need-blank-within-requires
 blank-within-requires c κs = search needs
 
 returns : tie.Need-returns
-returns c = sym (short-part (c .before .before .before .args .area .now) (c .before .before .before .args .at) (blank (c .before .before .before .args .size)) (c .before .before .before .args .size) (omega arith) (length-blank (c .before .before .before .args .size)))
+returns c =
+    sym (short-part (c .before .before .before .args .area .now) (c .before .before .before .args .at) (blank
+    (c .before .before .before .args .size)) (c .before .before .before .args .size) (omega arith) (length-blank
+    (c .before .before .before .args .size)))
 
 returns-2 : tie.Need-returns-2
 returns-2 c = search needs

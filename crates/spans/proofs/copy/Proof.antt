@@ -22,7 +22,12 @@ same-length : tie.Need-same-length
 same-length c = search needs
 
 returns : tie.Need-returns
-returns c = cc (copy-least (c .before .before .before .before .before .before .before .before .before .before .args .dst .now) (c .before .before .before .before .before .before .before .before .before .before .args .at) (c .before .before .before .before .before .before .before .before .before .before .args .src .now) (c .before .before .before .before .before .before .before .before .before .before .args .from) (c .before .before .before .before .before .before .before .before .before .before .args .size))
+returns c =
+    cc (copy-least (c .before .before .before .before .before .before .before .before .before .before .args .dst .now)
+    (c .before .before .before .before .before .before .before .before .before .before .args .at)
+    (c .before .before .before .before .before .before .before .before .before .before .args .src .now)
+    (c .before .before .before .before .before .before .before .before .before .before .args .from)
+    (c .before .before .before .before .before .before .before .before .before .before .args .size))
 
 pub copy-spec : {M : Type 1} → statement M
 copy-spec =

@@ -40,7 +40,8 @@ loop-again : tie.Need-loop-again Inv-loop μ-loop
 loop-again c = (
   omega arith,
   rw (c .before .before .loop .inv .1)
-      (copy-next (c .before .before .before .args .dst .now) (c .before .before .before .args .at) (c .before .before .before .args .src .now)
+      (copy-next (c .before .before .before .args .dst .now) (c .before .before .before .args .at)
+      (c .before .before .before .args .src .now)
       (c .before .before .before .args .from) (c .before .before .loop .i) (omega arith)),
 )
 
@@ -50,7 +51,8 @@ same-length c = simp length-put at (ap length (c .before .loop .inv .1))
 returns : tie.Need-returns Inv-loop μ-loop
 returns c =
     let e : c .before .loop .i ≡ c .before .before .args .size = omega arith in
-    c .before .loop .inv .1 ∙ ap (λ (n : ℕ). put (c .before .before .args .dst .now) (c .before .before .args .at) (part (c .before .before .args .src .now) (c .before .before .args .from) n)) e
+    c .before .loop .inv .1 ∙ ap (λ (n : ℕ). put (c .before .before .args .dst .now) (c .before .before .args .at) (part
+    (c .before .before .args .src .now) (c .before .before .args .from) n)) e
 
 pub copy-within-spec : {M : Type 1} → statement M
 copy-within-spec =

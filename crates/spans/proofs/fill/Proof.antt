@@ -16,7 +16,10 @@ same-length : tie.Need-same-length
 same-length c = search needs
 
 returns : tie.Need-returns
-returns c = cc (blank-least (c .before .before .before .before .before .before .before .args .area .now) (c .before .before .before .before .before .before .before .args .at) (c .before .before .before .before .before .before .before .args .size))
+returns c =
+    cc (blank-least (c .before .before .before .before .before .before .before .args .area .now)
+    (c .before .before .before .before .before .before .before .args .at)
+    (c .before .before .before .before .before .before .before .args .size))
 
 pub fill-spec : {M : Type 1} → statement M
 fill-spec =

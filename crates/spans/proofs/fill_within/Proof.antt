@@ -31,8 +31,11 @@ loop-less : tie.Need-loop-less Inv-loop μ-loop
 loop-less c = search needs
 
 loop-again : tie.Need-loop-again Inv-loop μ-loop
-loop-again c =
-    (omega arith, rw (c .before .loop .inv .1) (erase-next (c .before .before .args .area .now) (c .before .before .args .at) (c .before .loop .i)))
+loop-again c = (
+  omega arith,
+  rw (c .before .loop .inv .1) (erase-next (c .before .before .args .area .now) (c .before .before .args .at)
+      (c .before .loop .i)),
+)
 
 same-length : tie.Need-same-length Inv-loop μ-loop
 same-length c = simp length-put at (ap length (c .before .loop .inv .1))

@@ -50,7 +50,8 @@ unfolding part
 returns c =
     let e : c .before .loop .i ≡ length (c .before .before .args .want .now) = omega arith in
     c .before .loop .inv .1
-    ∙ ap (λ (n : ℕ). same (part (c .before .before .args .area .now) (c .before .before .args .at) n) (part (c .before .before .args .want .now) 0 n)) e
+    ∙ ap (λ (n : ℕ). same (part (c .before .before .args .area .now) (c .before .before .args .at) n) (part
+    (c .before .before .args .want .now) 0 n)) e
     ∙ ap (same (part (c .before .before .args .area .now) (c .before .before .args .at) (length (c .before .before .args .want .now))))
     (take-length (c .before .before .args .want .now))
 

@@ -14,7 +14,10 @@ same-within-requires : tie.Need-same-within-requires
 same-within-requires c κs = search needs
 
 returns : tie.Need-returns
-returns c = sym (short-part (c .before .before .before .before .args .area .now) (c .before .before .before .before .args .at) (c .before .before .before .before .args .want .now) (length (c .before .before .before .before .args .want .now)) (omega arith) refl)
+returns c =
+    sym (short-part (c .before .before .before .before .args .area .now) (c .before .before .before .before .args .at)
+    (c .before .before .before .before .args .want .now) (length (c .before .before .before .before .args .want .now))
+    (omega arith) refl)
 
 returns-2 : tie.Need-returns-2
 returns-2 c = search needs

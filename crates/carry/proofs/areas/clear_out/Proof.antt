@@ -27,7 +27,8 @@ unfolding base
 returns c =
     λ x2.
     cleared (c .before .before .before .before .before .before .before .before .before .before .before .before .before .before .before .args .g) (c .before .before .before .before .before .before .before .before .before .before .before .before .before .before .before .args .unset) (c .before .before .before .before .before .before .before .before .before .before .before .before .before .before .before .args .slot0 .now) (c .before .before .before .before .before .before .before .before .before .before .before .before .before .before .before .args .slot1 .now) x2 (c .before .before .before .before .before .before .before .before .before .before .before .before .before .before .before .args .run)
-    _ _ (c .before .before .before .before .before .before .before .before .before .before .erase-sectors .ensures) _ _ (c .before .before .before .before .before .before .write-ok .ensures) _ _ (c .before .before .erase .ensures)
+    _ _ (c .before .before .before .before .before .before .before .before .before .before .erase-sectors .ensures) _ _
+    (c .before .before .before .before .before .before .write-ok .ensures) _ _ (c .before .before .erase .ensures)
 
 pub clear-out-spec : {M : Type 1} → statement M
 clear-out-spec =

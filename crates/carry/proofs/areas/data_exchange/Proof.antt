@@ -23,7 +23,8 @@ sub-t17 c = search needs
 write-mark-requires : tie.Need-write-mark-requires
 unfolding base
 write-mark-requires c κs =
-    let e : c .before .before .done-place .result .0 ≡ c .before .before .before .before .before .before .before .before .before .before .before .before .before .before .before .before .args .g .sector - 32 = ap (λ (o : Offset). o .0) (c .before .before .done-place .ensures) in
+    let e : c .before .before .done-place .result .0
+    ≡ c .before .before .before .before .before .before .before .before .before .before .before .before .before .before .before .before .args .g .sector - 32 = ap (λ (o : Offset). o .0) (c .before .before .done-place .ensures) in
     (c .before .before .before .before .before .before .before .before .before .before .before .before .before .before .before .before .pre .0, (omega (arith, c .before .before .before .before .before .before .before .before .before .before .before .before .before .before .before .before .pre .0 .many), omega (arith, e, c .before .before .before .before .before .before .before .before .before .before .before .before .before .before .before .before .pre .0 .room)))
 
 same-length : tie.Need-same-length
@@ -39,7 +40,8 @@ returns : tie.Need-returns
 unfolding base
 returns c =
     in-slot0 (c .before .before .before .before .before .before .before .before .before .before .before .before .before .before .before .before .before .before .before .args .g) _ _ _ _ (c .before .before .before .before .before .done-place .result) 1 _ _ (c .before .before .write-mark .ensures)
-    ∙ ap (λ (o : Offset). step (build (c .before .before .before .before .before .before .before .before .before .before .before .before .before .before .before .before .before .before .before .args .g)) (mark (build (c .before .before .before .before .before .before .before .before .before .before .before .before .before .before .before .before .before .before .before .args .g)) Area.slot0 o 1)
+    ∙ ap (λ (o : Offset). step (build
+    (c .before .before .before .before .before .before .before .before .before .before .before .before .before .before .before .before .before .before .before .args .g)) (mark (build (c .before .before .before .before .before .before .before .before .before .before .before .before .before .before .before .before .before .before .before .args .g)) Area.slot0 o 1)
     (state (c .before .before .before .before .before .before .before .before .before .before .before .before .moves-from .last .1 .1 .0) (c .before .before .before .before .before .before .before .before .before .before .before .before .moves-from .last .1 .1 .1 .0) (c .before .before .before .before .before .before .before .before .before .before .before .before .moves-from .last .1 .1 .1 .1 .0) (c .before .before .before .before .before .before .before .before .before .before .before .before .moves-from .result))) (c .before .before .before .before .before .done-place .ensures)
     ∙ c .before .before .before .before .before .before .before .before .before .before .before .before .moves-from .ensures
 

@@ -20,9 +20,17 @@ first-unit-requires c κs = search needs
 
 place-of-requires : tie.Need-place-of-requires
 place-of-requires c κs =
-    let e : c .first-unit .result .0 ≡ c .before .before .before .before .before .before .before .args .from .0 * (c .before .before .before .before .before .before .before .args .g .sector / c .before .before .before .before .before .before .before .args .g .unit) = ap (λ (u : Unit). u .0) (c .first-unit .ensures) in
-    let n : c .before .before .before .before .before .before .before .args .g .sector / c .before .before .before .before .before .before .before .args .g .unit ≤ 65536 = omega (arith, div-le-self (c .before .before .before .before .before .before .before .args .g .sector) (c .before .before .before .before .before .before .before .args .g .unit)) in
-    (c .before .before .before .before .before .before .before .pre .0, omega (arith, e, mul-le-mul {n₁ = c .before .before .before .before .before .before .before .args .from .0} {n₂ = 127} {m₂ = 65536} (omega arith) n))
+    let e : c .first-unit .result .0 ≡ c .before .before .before .before .before .before .before .args .from .0 *
+    (c .before .before .before .before .before .before .before .args .g .sector / c .before .before .before .before .before .before .before .args .g .unit) = ap (λ (u : Unit). u .0) (c .first-unit .ensures) in
+    let n : c .before .before .before .before .before .before .before .args .g .sector / c .before .before .before .before .before .before .before .args .g .unit ≤ 65536 = omega (arith, div-le-self (c .before .before .before .before .before .before .before .args .g .sector) (c .before .before .before .before .before .before .before .args .g .unit)) in (
+      c .before .before .before .before .before .before .before .pre .0,
+      omega (
+        arith,
+        e,
+        mul-le-mul {n₁ = c .before .before .before .before .before .before .before .args .from .0} {n₂ = 127} {m₂ = 65536}
+            (omega arith) n,
+      ),
+    )
 
 first-unit-requires-2 : tie.Need-first-unit-requires-2
 first-unit-requires-2 c κs = search needs
@@ -32,9 +40,14 @@ div-write-units c = search needs
 
 write-units-requires : tie.Need-write-units-requires
 write-units-requires c κs =
-    let e : c .before .before .first-unit2 .result .0 ≡ c .before .before .before .before .before .before .before .before .before .before .before .args .to .0 * (c .before .before .before .before .before .before .before .before .before .before .before .args .g .sector / c .before .before .before .before .before .before .before .before .before .before .before .args .g .unit) = ap (λ (u : Unit). u .0) (c .before .before .first-unit2 .ensures) in
-    let n : c .before .before .before .before .before .before .before .before .before .before .before .args .g .sector / c .before .before .before .before .before .before .before .before .before .before .before .args .g .unit ≤ 65536 = omega (arith, div-le-self (c .before .before .before .before .before .before .before .before .before .before .before .args .g .sector) (c .before .before .before .before .before .before .before .before .before .before .before .args .g .unit)) in
-    (c .before .before .before .before .before .before .before .before .before .before .before .pre .0, omega (arith, e, n, mul-le-mul {n₁ = c .before .before .before .before .before .before .before .before .before .before .before .args .to .0} {n₂ = 127} {m₂ = 65536} (omega arith) n))
+    let e : c .before .before .first-unit2 .result .0
+    ≡ c .before .before .before .before .before .before .before .before .before .before .before .args .to .0 *
+    (c .before .before .before .before .before .before .before .before .before .before .before .args .g .sector / c .before .before .before .before .before .before .before .before .before .before .before .args .g .unit) = ap (λ (u : Unit). u .0) (c .before .before .first-unit2 .ensures) in
+    let n : c .before .before .before .before .before .before .before .before .before .before .before .args .g .sector / c .before .before .before .before .before .before .before .before .before .before .before .args .g .unit ≤ 65536 = omega (arith, div-le-self (c .before .before .before .before .before .before .before .before .before .before .before .args .g .sector) (c .before .before .before .before .before .before .before .before .before .before .before .args .g .unit)) in (
+      c .before .before .before .before .before .before .before .before .before .before .before .pre .0,
+      omega
+          (arith, e, n, mul-le-mul {n₁ = c .before .before .before .before .before .before .before .before .before .before .before .args .to .0} {n₂ = 127} {m₂ = 65536} (omega arith) n),
+    )
 
 same-length : tie.Need-same-length
 same-length c = search needs
@@ -44,8 +57,13 @@ unfolding moveIn
 returns c =
     let n : ℕ = c .before .before .before .before .before .before .before .before .before .before .before .before .before .before .args .g .sector / c .before .before .before .before .before .before .before .before .before .before .before .before .before .before .args .g .unit in
     c .before .before .write-units .ensures
-    ∙ ap₂ (λ (u : Unit) (o : Offset). writeAllIn (c .before .before .before .before .before .before .before .before .before .before .before .before .before .before .args .g) u n (part (c .before .before .before .before .before .before .before .before .before .before .before .before .before .before .args .src .now) (o .0) (n * c .before .before .before .before .before .before .before .before .before .before .before .before .before .before .args .g .unit)) (local (c .before .before .before .before .before .before .before .before .before .before .erase .last .1 .0) (c .before .before .before .before .before .before .before .before .before .before .erase .result)))
-    (c .before .before .before .before .before .first-unit2 .ensures) (c .before .before .before .before .before .before .place-of .ensures ∙ ap (placeOf (c .before .before .before .before .before .before .before .before .before .before .before .before .before .before .args .g)) (c .before .before .before .before .before .before .before .first-unit .ensures))
+    ∙ ap₂ (λ (u : Unit) (o : Offset). writeAllIn
+    (c .before .before .before .before .before .before .before .before .before .before .before .before .before .before .args .g) u n
+    (part (c .before .before .before .before .before .before .before .before .before .before .before .before .before .before .args .src .now) (o .0) (n * c .before .before .before .before .before .before .before .before .before .before .before .before .before .before .args .g .unit)) (local (c .before .before .before .before .before .before .before .before .before .before .erase .last .1 .0) (c .before .before .before .before .before .before .before .before .before .before .erase .result)))
+    (c .before .before .before .before .before .first-unit2 .ensures)
+    (c .before .before .before .before .before .before .place-of .ensures ∙ ap (placeOf
+    (c .before .before .before .before .before .before .before .before .before .before .before .before .before .before .args .g))
+    (c .before .before .before .before .before .before .before .first-unit .ensures))
     ∙ ap (writeAllIn (c .before .before .before .before .before .before .before .before .before .before .before .before .before .before .args .g) (firstUnit (c .before .before .before .before .before .before .before .before .before .before .before .before .before .before .args .g) (c .before .before .before .before .before .before .before .before .before .before .before .before .before .before .args .to)) n (part (c .before .before .before .before .before .before .before .before .before .before .before .before .before .before .args .src .now) (placeOf (c .before .before .before .before .before .before .before .before .before .before .before .before .before .before .args .g) (firstUnit (c .before .before .before .before .before .before .before .before .before .before .before .before .before .before .args .g) (c .before .before .before .before .before .before .before .before .before .before .before .before .before .before .args .from)) .0) (n * c .before .before .before .before .before .before .before .before .before .before .before .before .before .before .args .g .unit))) (c .before .before .before .before .before .before .before .before .before .before .erase .ensures)
 
 pub move-sector-spec : {M : Type 1} → statement M

@@ -55,7 +55,8 @@ same-length-3 c = search needs
 returns : tie.Need-returns Inv-loop μ-loop
 returns c =
     let e : c .before .before .loop .k ≡ 3 * c .before .before .before .before .before .before .args .g .sectors = omega arith in
-    sym (last-mark (c .before .before .before .before .before .before .args .g) (c .before .before .loop .k) _ (omega (arith, c .before .before .before .before .before .before .pre .0 .two)) e) ∙ c .before .before .loop .inv .5
+    sym (last-mark (c .before .before .before .before .before .before .args .g) (c .before .before .loop .k) _ (omega
+    (arith, c .before .before .before .before .before .before .pre .0 .two)) e) ∙ c .before .before .loop .inv .5
 
 pub moves-from-spec : {M : Type 1} → statement M
 moves-from-spec =

@@ -22,7 +22,9 @@ same-length-2 : tie.Need-same-length-2
 same-length-2 c = search needs
 
 returns : tie.Need-returns
-returns c = to-scratch (c .before .before .before .before .before .before .before .before .before .before .args .g) (c .before .before .before .before .before .before .before .before .before .before .args .g .sectors - 1 - c .before .before .before .before .before .before .before .before .before .before .args .k / 3) (c .before .before .before .before .before .before .before .before .before .before .args .slot0 .now) (c .before .before .before .before .before .before .before .before .before .before .args .slot1 .now) (c .before .before .before .before .before .before .before .before .before .before .args .scratch .now) (c .before .before .before .before .before .before .before .before .before .before .args .run) (c .before .before .before .before .before .before .before .before .before .before .args .k % 3) _ _ (c .before .before .move-sector .ensures) (c .before .before .before .before .before .if1 .taken)
+returns c =
+    to-scratch (c .before .before .before .before .before .before .before .before .before .before .args .g)
+    (c .before .before .before .before .before .before .before .before .before .before .args .g .sectors - 1 - c .before .before .before .before .before .before .before .before .before .before .args .k / 3) (c .before .before .before .before .before .before .before .before .before .before .args .slot0 .now) (c .before .before .before .before .before .before .before .before .before .before .args .slot1 .now) (c .before .before .before .before .before .before .before .before .before .before .args .scratch .now) (c .before .before .before .before .before .before .before .before .before .before .args .run) (c .before .before .before .before .before .before .before .before .before .before .args .k % 3) _ _ (c .before .before .move-sector .ensures) (c .before .before .before .before .before .if1 .taken)
 
 move-sector-requires-2 : tie.Need-move-sector-requires-2
 move-sector-requires-2 c κs = search needs
@@ -34,7 +36,9 @@ same-length-4 : tie.Need-same-length-4
 same-length-4 c = search needs
 
 returns-2 : tie.Need-returns-2
-returns-2 c = to-slot1 (c .before .before .before .before .before .before .before .before .before .before .before .args .g) (c .before .before .before .before .before .before .before .before .before .before .before .args .g .sectors - 1 - c .before .before .before .before .before .before .before .before .before .before .before .args .k / 3) (c .before .before .before .before .before .before .before .before .before .before .before .args .slot0 .now) (c .before .before .before .before .before .before .before .before .before .before .before .args .slot1 .now) (c .before .before .before .before .before .before .before .before .before .before .before .args .scratch .now) (c .before .before .before .before .before .before .before .before .before .before .before .args .run) (c .before .before .before .before .before .before .before .before .before .before .before .args .k % 3) _ _ (c .before .before .move-sector2 .ensures) (c .before .before .before .before .before .if2 .taken)
+returns-2 c =
+    to-slot1 (c .before .before .before .before .before .before .before .before .before .before .before .args .g)
+    (c .before .before .before .before .before .before .before .before .before .before .before .args .g .sectors - 1 - c .before .before .before .before .before .before .before .before .before .before .before .args .k / 3) (c .before .before .before .before .before .before .before .before .before .before .before .args .slot0 .now) (c .before .before .before .before .before .before .before .before .before .before .before .args .slot1 .now) (c .before .before .before .before .before .before .before .before .before .before .before .args .scratch .now) (c .before .before .before .before .before .before .before .before .before .before .before .args .run) (c .before .before .before .before .before .before .before .before .before .before .before .args .k % 3) _ _ (c .before .before .move-sector2 .ensures) (c .before .before .before .before .before .if2 .taken)
 
 move-sector-requires-3 : tie.Need-move-sector-requires-3
 move-sector-requires-3 c κs = search needs
@@ -46,7 +50,9 @@ same-length-6 : tie.Need-same-length-6
 same-length-6 c = search needs
 
 returns-3 : tie.Need-returns-3
-returns-3 c = to-slot0 (c .before .before .before .before .before .before .before .before .before .before .before .args .g) (c .before .before .before .before .before .before .before .before .before .before .before .args .g .sectors - 1 - c .before .before .before .before .before .before .before .before .before .before .before .args .k / 3) (c .before .before .before .before .before .before .before .before .before .before .before .args .slot0 .now) (c .before .before .before .before .before .before .before .before .before .before .before .args .slot1 .now) (c .before .before .before .before .before .before .before .before .before .before .before .args .scratch .now) (c .before .before .before .before .before .before .before .before .before .before .before .args .run) (c .before .before .before .before .before .before .before .before .before .before .before .args .k % 3) _ _ (c .before .before .move-sector3 .ensures) (omega (arith, c .before .before .before .before .before .if2 .left, c .before .before .before .before .before .before .if1 .left, mod-lt (c .before .before .before .before .before .before .before .before .before .before .before .args .k) {m = 3} (omega arith)))
+returns-3 c =
+    to-slot0 (c .before .before .before .before .before .before .before .before .before .before .before .args .g)
+    (c .before .before .before .before .before .before .before .before .before .before .before .args .g .sectors - 1 - c .before .before .before .before .before .before .before .before .before .before .before .args .k / 3) (c .before .before .before .before .before .before .before .before .before .before .before .args .slot0 .now) (c .before .before .before .before .before .before .before .before .before .before .before .args .slot1 .now) (c .before .before .before .before .before .before .before .before .before .before .before .args .scratch .now) (c .before .before .before .before .before .before .before .before .before .before .before .args .run) (c .before .before .before .before .before .before .before .before .before .before .before .args .k % 3) _ _ (c .before .before .move-sector3 .ensures) (omega (arith, c .before .before .before .before .before .if2 .left, c .before .before .before .before .before .before .if1 .left, mod-lt (c .before .before .before .before .before .before .before .before .before .before .before .args .k) {m = 3} (omega arith)))
 
 pub one-move-spec : {M : Type 1} → statement M
 one-move-spec =

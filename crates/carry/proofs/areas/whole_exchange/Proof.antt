@@ -28,10 +28,12 @@ same-length-3 c = search needs
 returns : tie.Need-returns
 unfolding exchange base
 returns c =
-    let rest : List Op = settle (build (c .before .before .before .before .before .before .before .before .before .before .before .before .before .before .before .before .before .args .g)) (c .before .before .before .before .before .before .before .before .before .before .before .before .before .before .before .before .before .args .lasting) ++ dataOps (build (c .before .before .before .before .before .before .before .before .before .before .before .before .before .before .before .before .before .args .g)) 3 (allMoves (c .before .before .before .before .before .before .before .before .before .before .before .before .before .before .before .before .before .args .g .sectors - 1)) in
+    let rest : List Op = settle (build
+    (c .before .before .before .before .before .before .before .before .before .before .before .before .before .before .before .before .before .args .g)) (c .before .before .before .before .before .before .before .before .before .before .before .before .before .before .before .before .before .args .lasting) ++ dataOps (build (c .before .before .before .before .before .before .before .before .before .before .before .before .before .before .before .before .before .args .g)) 3 (allMoves (c .before .before .before .before .before .before .before .before .before .before .before .before .before .before .before .before .before .args .g .sectors - 1)) in
     c .before .before .before .before .before .before .from-line-three .ensures
     ∙ ap (steps (build (c .before .before .before .before .before .before .before .before .before .before .before .before .before .before .before .before .before .args .g)) rest) (begun (c .before .before .before .before .before .before .before .before .before .before .before .before .before .before .before .before .before .args .g) (c .before .before .before .before .before .before .before .before .before .before .before .before .before .before .before .before .before .args .lasting) (c .before .before .before .before .before .before .before .before .before .before .before .before .before .before .before .before .before .args .slot0 .now) (c .before .before .before .before .before .before .before .before .before .before .before .before .before .before .before .before .before .args .slot1 .now) (c .before .before .before .before .before .before .before .before .before .before .before .before .before .before .before .before .before .args .scratch .now) (c .before .before .before .before .before .before .before .before .before .before .before .before .before .before .before .before .before .args .run) _ _ (c .before .before .before .before .before .before .before .before .before .before .before .before .lines-one-two .ensures))
-    ∙ sym (steps-append (build (c .before .before .before .before .before .before .before .before .before .before .before .before .before .before .before .before .before .args .g)) (begin (build (c .before .before .before .before .before .before .before .before .before .before .before .before .before .before .before .before .before .args .g)) (c .before .before .before .before .before .before .before .before .before .before .before .before .before .before .before .before .before .args .lasting)) rest _)
+    ∙ sym (steps-append (build
+    (c .before .before .before .before .before .before .before .before .before .before .before .before .before .before .before .before .before .args .g)) (begin (build (c .before .before .before .before .before .before .before .before .before .before .before .before .before .before .before .before .before .args .g)) (c .before .before .before .before .before .before .before .before .before .before .before .before .before .before .before .before .before .args .lasting)) rest _)
 
 pub whole-exchange-spec : {M : Type 1} → statement M
 whole-exchange-spec =

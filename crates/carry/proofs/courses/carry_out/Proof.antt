@@ -25,8 +25,16 @@ enum-known-course-2 c = search needs
 
 data-exchange-requires : tie.Need-data-exchange-requires
 data-exchange-requires c κs =
-    let told : c .before .before .before .before .before .before .before .before .before .args .course ≡ Resume (c .before .before .before .before .course2 .given .0 .0) = c .before .before .before .before .course2 .given .1 in
-    (c .before .before .before .before .before .before .before .before .before .pre .0, resumed-bounds (c .before .before .before .before .before .before .before .before .before .args .g) (c .before .before .before .before .course2 .given .0 .0) (c .before .before .before .before .before .before .before .before .before .pre .0) (ap (inBounds (build (c .before .before .before .before .before .before .before .before .before .args .g))) (sym told) ∙ c .before .before .before .before .before .before .before .before .before .pre .1))
+    let told : c .before .before .before .before .before .before .before .before .before .args .course ≡ Resume
+    (c .before .before .before .before .course2 .given .0 .0) = c .before .before .before .before .course2 .given .1 in (
+      c .before .before .before .before .before .before .before .before .before .pre .0,
+      resumed-bounds
+          (c .before .before .before .before .before .before .before .before .before .args .g)
+          (c .before .before .before .before .course2 .given .0 .0)
+          (c .before .before .before .before .before .before .before .before .before .pre .0) (ap (inBounds (build
+          (c .before .before .before .before .before .before .before .before .before .args .g))) (sym told)
+          ∙ c .before .before .before .before .before .before .before .before .before .pre .1),
+    )
 
 enum-told : tie.Need-enum-told
 enum-told c = search needs
@@ -74,7 +82,8 @@ returns : tie.Need-returns
 unfolding listOf base okUnset
 returns c =
     c .before .before .before .before .before .before .from-line-three .ensures
-    ∙ ap (λ (x : Course). steps (build (c .before .before .before .before .before .before .before .before .before .before .before .before .before .before .before .before .args .g)) (listOf (build (c .before .before .before .before .before .before .before .before .before .before .before .before .before .before .before .before .args .g)) (okUnset (build (c .before .before .before .before .before .before .before .before .before .before .before .before .before .before .before .before .args .g)) (flashOf (c .before .before .before .before .before .before .before .before .before .before .before .before .before .before .before .before .args .slot0 .now) (c .before .before .before .before .before .before .before .before .before .before .before .before .before .before .before .before .args .slot1 .now) (c .before .before .before .before .before .before .before .before .before .before .before .before .before .before .before .before .args .scratch .now))) x) (state (c .before .before .before .before .before .before .before .before .before .before .before .before .before .before .before .before .args .slot0 .now) (c .before .before .before .before .before .before .before .before .before .before .before .before .before .before .before .before .args .slot1 .now) (c .before .before .before .before .before .before .before .before .before .before .before .before .before .before .before .before .args .scratch .now) (c .before .before .before .before .before .before .before .before .before .before .before .before .before .before .before .before .args .run))) (sym (c .before .before .before .before .before .before .before .before .before .before .before .course .given .1))
+    ∙ ap (λ (x : Course). steps (build
+    (c .before .before .before .before .before .before .before .before .before .before .before .before .before .before .before .before .args .g)) (listOf (build (c .before .before .before .before .before .before .before .before .before .before .before .before .before .before .before .before .args .g)) (okUnset (build (c .before .before .before .before .before .before .before .before .before .before .before .before .before .before .before .before .args .g)) (flashOf (c .before .before .before .before .before .before .before .before .before .before .before .before .before .before .before .before .args .slot0 .now) (c .before .before .before .before .before .before .before .before .before .before .before .before .before .before .before .before .args .slot1 .now) (c .before .before .before .before .before .before .before .before .before .before .before .before .before .before .before .before .args .scratch .now))) x) (state (c .before .before .before .before .before .before .before .before .before .before .before .before .before .before .before .before .args .slot0 .now) (c .before .before .before .before .before .before .before .before .before .before .before .before .before .before .before .before .args .slot1 .now) (c .before .before .before .before .before .before .before .before .before .before .before .before .before .before .before .before .args .scratch .now) (c .before .before .before .before .before .before .before .before .before .before .before .before .before .before .before .before .args .run))) (sym (c .before .before .before .before .before .before .before .before .before .before .before .course .given .1))
 
 same-length-4 : tie.Need-same-length-4
 same-length-4 c = search needs
@@ -89,7 +98,8 @@ returns-2 : tie.Need-returns-2
 unfolding listOf base okUnset
 returns-2 c =
     c .before .before .before .before .before .before .data-exchange .ensures
-    ∙ ap (λ (x : Course). steps (build (c .before .before .before .before .before .before .before .before .before .before .before .before .before .before .before .before .args .g)) (listOf (build (c .before .before .before .before .before .before .before .before .before .before .before .before .before .before .before .before .args .g)) (okUnset (build (c .before .before .before .before .before .before .before .before .before .before .before .before .before .before .before .before .args .g)) (flashOf (c .before .before .before .before .before .before .before .before .before .before .before .before .before .before .before .before .args .slot0 .now) (c .before .before .before .before .before .before .before .before .before .before .before .before .before .before .before .before .args .slot1 .now) (c .before .before .before .before .before .before .before .before .before .before .before .before .before .before .before .before .args .scratch .now))) x) (state (c .before .before .before .before .before .before .before .before .before .before .before .before .before .before .before .before .args .slot0 .now) (c .before .before .before .before .before .before .before .before .before .before .before .before .before .before .before .before .args .slot1 .now) (c .before .before .before .before .before .before .before .before .before .before .before .before .before .before .before .before .args .scratch .now) (c .before .before .before .before .before .before .before .before .before .before .before .before .before .before .before .before .args .run))) (sym (c .before .before .before .before .before .before .before .before .before .before .before .course2 .given .1))
+    ∙ ap (λ (x : Course). steps (build
+    (c .before .before .before .before .before .before .before .before .before .before .before .before .before .before .before .before .args .g)) (listOf (build (c .before .before .before .before .before .before .before .before .before .before .before .before .before .before .before .before .args .g)) (okUnset (build (c .before .before .before .before .before .before .before .before .before .before .before .before .before .before .before .before .args .g)) (flashOf (c .before .before .before .before .before .before .before .before .before .before .before .before .before .before .before .before .args .slot0 .now) (c .before .before .before .before .before .before .before .before .before .before .before .before .before .before .before .before .args .slot1 .now) (c .before .before .before .before .before .before .before .before .before .before .before .before .before .before .before .before .args .scratch .now))) x) (state (c .before .before .before .before .before .before .before .before .before .before .before .before .before .before .before .before .args .slot0 .now) (c .before .before .before .before .before .before .before .before .before .before .before .before .before .before .before .before .args .slot1 .now) (c .before .before .before .before .before .before .before .before .before .before .before .before .before .before .before .before .args .scratch .now) (c .before .before .before .before .before .before .before .before .before .before .before .before .before .before .before .before .args .run))) (sym (c .before .before .before .before .before .before .before .before .before .before .before .course2 .given .1))
 
 same-length-7 : tie.Need-same-length-7
 same-length-7 c = search needs
@@ -104,7 +114,8 @@ returns-3 : tie.Need-returns-3
 unfolding listOf base okUnset
 returns-3 c =
     c .before .before .before .before .before .before .whole-exchange .ensures
-    ∙ ap (λ (x : Course). steps (build (c .before .before .before .before .before .before .before .before .before .before .before .before .before .before .before .args .g)) (listOf (build (c .before .before .before .before .before .before .before .before .before .before .before .before .before .before .before .args .g)) (okUnset (build (c .before .before .before .before .before .before .before .before .before .before .before .before .before .before .before .args .g)) (flashOf (c .before .before .before .before .before .before .before .before .before .before .before .before .before .before .before .args .slot0 .now) (c .before .before .before .before .before .before .before .before .before .before .before .before .before .before .before .args .slot1 .now) (c .before .before .before .before .before .before .before .before .before .before .before .before .before .before .before .args .scratch .now))) x) (state (c .before .before .before .before .before .before .before .before .before .before .before .before .before .before .before .args .slot0 .now) (c .before .before .before .before .before .before .before .before .before .before .before .before .before .before .before .args .slot1 .now) (c .before .before .before .before .before .before .before .before .before .before .before .before .before .before .before .args .scratch .now) (c .before .before .before .before .before .before .before .before .before .before .before .before .before .before .before .args .run))) (sym (c .before .before .before .before .before .before .before .before .before .before .enum-told .given .1))
+    ∙ ap (λ (x : Course). steps (build
+    (c .before .before .before .before .before .before .before .before .before .before .before .before .before .before .before .args .g)) (listOf (build (c .before .before .before .before .before .before .before .before .before .before .before .before .before .before .before .args .g)) (okUnset (build (c .before .before .before .before .before .before .before .before .before .before .before .before .before .before .before .args .g)) (flashOf (c .before .before .before .before .before .before .before .before .before .before .before .before .before .before .before .args .slot0 .now) (c .before .before .before .before .before .before .before .before .before .before .before .before .before .before .before .args .slot1 .now) (c .before .before .before .before .before .before .before .before .before .before .before .before .before .before .before .args .scratch .now))) x) (state (c .before .before .before .before .before .before .before .before .before .before .before .before .before .before .before .args .slot0 .now) (c .before .before .before .before .before .before .before .before .before .before .before .before .before .before .before .args .slot1 .now) (c .before .before .before .before .before .before .before .before .before .before .before .before .before .before .before .args .scratch .now) (c .before .before .before .before .before .before .before .before .before .before .before .before .before .before .before .args .run))) (sym (c .before .before .before .before .before .before .before .before .before .before .enum-told .given .1))
 
 same-length-10 : tie.Need-same-length-10
 same-length-10 c = search needs
@@ -119,7 +130,8 @@ returns-4 : tie.Need-returns-4
 unfolding listOf base okUnset
 returns-4 c =
     c .before .before .before .before .before .before .whole-exchange2 .ensures
-    ∙ ap (λ (x : Course). steps (build (c .before .before .before .before .before .before .before .before .before .before .before .before .before .before .before .args .g)) (listOf (build (c .before .before .before .before .before .before .before .before .before .before .before .before .before .before .before .args .g)) (okUnset (build (c .before .before .before .before .before .before .before .before .before .before .before .before .before .before .before .args .g)) (flashOf (c .before .before .before .before .before .before .before .before .before .before .before .before .before .before .before .args .slot0 .now) (c .before .before .before .before .before .before .before .before .before .before .before .before .before .before .before .args .slot1 .now) (c .before .before .before .before .before .before .before .before .before .before .before .before .before .before .before .args .scratch .now))) x) (state (c .before .before .before .before .before .before .before .before .before .before .before .before .before .before .before .args .slot0 .now) (c .before .before .before .before .before .before .before .before .before .before .before .before .before .before .before .args .slot1 .now) (c .before .before .before .before .before .before .before .before .before .before .before .before .before .before .before .args .scratch .now) (c .before .before .before .before .before .before .before .before .before .before .before .before .before .before .before .args .run))) (sym (c .before .before .before .before .before .before .before .before .before .before .enum-told2 .given .1))
+    ∙ ap (λ (x : Course). steps (build
+    (c .before .before .before .before .before .before .before .before .before .before .before .before .before .before .before .args .g)) (listOf (build (c .before .before .before .before .before .before .before .before .before .before .before .before .before .before .before .args .g)) (okUnset (build (c .before .before .before .before .before .before .before .before .before .before .before .before .before .before .before .args .g)) (flashOf (c .before .before .before .before .before .before .before .before .before .before .before .before .before .before .before .args .slot0 .now) (c .before .before .before .before .before .before .before .before .before .before .before .before .before .before .before .args .slot1 .now) (c .before .before .before .before .before .before .before .before .before .before .before .before .before .before .before .args .scratch .now))) x) (state (c .before .before .before .before .before .before .before .before .before .before .before .before .before .before .before .args .slot0 .now) (c .before .before .before .before .before .before .before .before .before .before .before .before .before .before .before .args .slot1 .now) (c .before .before .before .before .before .before .before .before .before .before .before .before .before .before .before .args .scratch .now) (c .before .before .before .before .before .before .before .before .before .before .before .before .before .before .before .args .run))) (sym (c .before .before .before .before .before .before .before .before .before .before .enum-told2 .given .1))
 
 same-length-13 : tie.Need-same-length-13
 same-length-13 c = search needs
@@ -134,7 +146,8 @@ returns-5 : tie.Need-returns-5
 unfolding listOf base okUnset
 returns-5 c =
     c .before .before .before .before .before .before .whole-exchange3 .ensures
-    ∙ ap (λ (x : Course). steps (build (c .before .before .before .before .before .before .before .before .before .before .before .before .before .before .before .args .g)) (listOf (build (c .before .before .before .before .before .before .before .before .before .before .before .before .before .before .before .args .g)) (okUnset (build (c .before .before .before .before .before .before .before .before .before .before .before .before .before .before .before .args .g)) (flashOf (c .before .before .before .before .before .before .before .before .before .before .before .before .before .before .before .args .slot0 .now) (c .before .before .before .before .before .before .before .before .before .before .before .before .before .before .before .args .slot1 .now) (c .before .before .before .before .before .before .before .before .before .before .before .before .before .before .before .args .scratch .now))) x) (state (c .before .before .before .before .before .before .before .before .before .before .before .before .before .before .before .args .slot0 .now) (c .before .before .before .before .before .before .before .before .before .before .before .before .before .before .before .args .slot1 .now) (c .before .before .before .before .before .before .before .before .before .before .before .before .before .before .before .args .scratch .now) (c .before .before .before .before .before .before .before .before .before .before .before .before .before .before .before .args .run))) (sym (c .before .before .before .before .before .before .before .before .before .before .enum-told3 .given .1))
+    ∙ ap (λ (x : Course). steps (build
+    (c .before .before .before .before .before .before .before .before .before .before .before .before .before .before .before .args .g)) (listOf (build (c .before .before .before .before .before .before .before .before .before .before .before .before .before .before .before .args .g)) (okUnset (build (c .before .before .before .before .before .before .before .before .before .before .before .before .before .before .before .args .g)) (flashOf (c .before .before .before .before .before .before .before .before .before .before .before .before .before .before .before .args .slot0 .now) (c .before .before .before .before .before .before .before .before .before .before .before .before .before .before .before .args .slot1 .now) (c .before .before .before .before .before .before .before .before .before .before .before .before .before .before .before .args .scratch .now))) x) (state (c .before .before .before .before .before .before .before .before .before .before .before .before .before .before .before .args .slot0 .now) (c .before .before .before .before .before .before .before .before .before .before .before .before .before .before .before .args .slot1 .now) (c .before .before .before .before .before .before .before .before .before .before .before .before .before .before .before .args .scratch .now) (c .before .before .before .before .before .before .before .before .before .before .before .before .before .before .before .args .run))) (sym (c .before .before .before .before .before .before .before .before .before .before .enum-told3 .given .1))
 
 same-length-16 : tie.Need-same-length-16
 same-length-16 c = search needs
@@ -145,17 +158,38 @@ same-length-17 c = search needs
 returns-6 : tie.Need-returns-6
 unfolding listOf okUnset trailer base
 returns-6 c =
-    c .before .before .before .before .clear-out .ensures (c .before .before .before .before .before .before .before .before .before .before .before .before .before .before .args .scratch .now)
-    ∙ ap (λ (u : Bool). steps (build (c .before .before .before .before .before .before .before .before .before .before .before .before .before .before .args .g)) (clearOut (build (c .before .before .before .before .before .before .before .before .before .before .before .before .before .before .args .g)) u) (state (c .before .before .before .before .before .before .before .before .before .before .before .before .before .before .args .slot0 .now) (c .before .before .before .before .before .before .before .before .before .before .before .before .before .before .args .slot1 .now) (c .before .before .before .before .before .before .before .before .before .before .before .before .before .before .args .scratch .now) (c .before .before .before .before .before .before .before .before .before .before .before .before .before .before .args .run))) (c .before .before .before .before .before .before .before .ok-is-unset .ensures)
-    ∙ ap (λ (x : Course). steps (build (c .before .before .before .before .before .before .before .before .before .before .before .before .before .before .args .g)) (listOf (build (c .before .before .before .before .before .before .before .before .before .before .before .before .before .before .args .g)) (okUnset (build (c .before .before .before .before .before .before .before .before .before .before .before .before .before .before .args .g)) (flashOf (c .before .before .before .before .before .before .before .before .before .before .before .before .before .before .args .slot0 .now) (c .before .before .before .before .before .before .before .before .before .before .before .before .before .before .args .slot1 .now) (c .before .before .before .before .before .before .before .before .before .before .before .before .before .before .args .scratch .now))) x) (state (c .before .before .before .before .before .before .before .before .before .before .before .before .before .before .args .slot0 .now) (c .before .before .before .before .before .before .before .before .before .before .before .before .before .before .args .slot1 .now) (c .before .before .before .before .before .before .before .before .before .before .before .before .before .before .args .scratch .now) (c .before .before .before .before .before .before .before .before .before .before .before .before .before .before .args .run))) (sym (c .before .before .before .before .before .before .before .before .before .enum-told4 .given .1))
+    c .before .before .before .before .clear-out .ensures
+    (c .before .before .before .before .before .before .before .before .before .before .before .before .before .before .args .scratch .now)
+    ∙ ap (λ (u : Bool). steps (build
+    (c .before .before .before .before .before .before .before .before .before .before .before .before .before .before .args .g))
+    (clearOut (build (c .before .before .before .before .before .before .before .before .before .before .before .before .before .before .args .g)) u) (state (c .before .before .before .before .before .before .before .before .before .before .before .before .before .before .args .slot0 .now) (c .before .before .before .before .before .before .before .before .before .before .before .before .before .before .args .slot1 .now) (c .before .before .before .before .before .before .before .before .before .before .before .before .before .before .args .scratch .now) (c .before .before .before .before .before .before .before .before .before .before .before .before .before .before .args .run))) (c .before .before .before .before .before .before .before .ok-is-unset .ensures)
+    ∙ ap (λ (x : Course). steps (build
+    (c .before .before .before .before .before .before .before .before .before .before .before .before .before .before .args .g))
+    (listOf (build (c .before .before .before .before .before .before .before .before .before .before .before .before .before .before .args .g)) (okUnset (build (c .before .before .before .before .before .before .before .before .before .before .before .before .before .before .args .g)) (flashOf (c .before .before .before .before .before .before .before .before .before .before .before .before .before .before .args .slot0 .now) (c .before .before .before .before .before .before .before .before .before .before .before .before .before .before .args .slot1 .now) (c .before .before .before .before .before .before .before .before .before .before .before .before .before .before .args .scratch .now))) x) (state (c .before .before .before .before .before .before .before .before .before .before .before .before .before .before .args .slot0 .now) (c .before .before .before .before .before .before .before .before .before .before .before .before .before .before .args .slot1 .now) (c .before .before .before .before .before .before .before .before .before .before .before .before .before .before .args .scratch .now) (c .before .before .before .before .before .before .before .before .before .before .before .before .before .before .args .run))) (sym (c .before .before .before .before .before .before .before .before .before .enum-told4 .given .1))
 
 returns-7 : tie.Need-returns-7
 unfolding listOf steps
-returns-7 c = ap (λ (x : Course). steps (build (c .before .before .before .before .before .args .g)) (listOf (build (c .before .before .before .before .before .args .g)) (okUnset (build (c .before .before .before .before .before .args .g)) (flashOf (c .before .before .before .before .before .args .slot0 .now) (c .before .before .before .before .before .args .slot1 .now) (c .before .before .before .before .before .args .scratch .now))) x) (state (c .before .before .before .before .before .args .slot0 .now) (c .before .before .before .before .before .args .slot1 .now) (c .before .before .before .before .before .args .scratch .now) (c .before .before .before .before .before .args .run))) (sym (c .enum-told5 .given .1))
+returns-7 c =
+    ap (λ (x : Course). steps (build (c .before .before .before .before .before .args .g)) (listOf (build
+    (c .before .before .before .before .before .args .g)) (okUnset (build (c .before .before .before .before .before .args .g))
+    (flashOf (c .before .before .before .before .before .args .slot0 .now)
+    (c .before .before .before .before .before .args .slot1 .now)
+    (c .before .before .before .before .before .args .scratch .now))) x) (state
+    (c .before .before .before .before .before .args .slot0 .now) (c .before .before .before .before .before .args .slot1 .now)
+    (c .before .before .before .before .before .args .scratch .now) (c .before .before .before .before .before .args .run)))
+    (sym (c .enum-told5 .given .1))
 
 returns-8 : tie.Need-returns-8
 unfolding listOf steps
-returns-8 c = ap (λ (x : Course). steps (build (c .before .before .before .before .before .args .g)) (listOf (build (c .before .before .before .before .before .args .g)) (okUnset (build (c .before .before .before .before .before .args .g)) (flashOf (c .before .before .before .before .before .args .slot0 .now) (c .before .before .before .before .before .args .slot1 .now) (c .before .before .before .before .before .args .scratch .now))) x) (state (c .before .before .before .before .before .args .slot0 .now) (c .before .before .before .before .before .args .slot1 .now) (c .before .before .before .before .before .args .scratch .now) (c .before .before .before .before .before .args .run))) (sym (c .enum-told6 .given .1))
+returns-8 c =
+    ap (λ (x : Course). steps (build (c .before .before .before .before .before .args .g)) (listOf (build
+    (c .before .before .before .before .before .args .g)) (okUnset (build (c .before .before .before .before .before .args .g))
+    (flashOf (c .before .before .before .before .before .args .slot0 .now)
+    (c .before .before .before .before .before .args .slot1 .now)
+    (c .before .before .before .before .before .args .scratch .now))) x) (state
+    (c .before .before .before .before .before .args .slot0 .now) (c .before .before .before .before .before .args .slot1 .now)
+    (c .before .before .before .before .before .args .scratch .now) (c .before .before .before .before .before .args .run)))
+    (sym (c .enum-told6 .given .1))
 
 pub carry-out-spec : {M : Type 1} → statement M
 carry-out-spec =

@@ -16,7 +16,9 @@ ok-unset-requires c κs = search needs
 
 returns : tie.Need-returns
 unfolding okUnset trailer base
-returns c = c .ok-unset .ensures ∙ ap (λ (t : List ℕ). isUnset (markOf (build (c .before .before .before .args .g)) t (okAt (build (c .before .before .before .args .g))))) (c .before .slot-trailer .ensures)
+returns c =
+    c .ok-unset .ensures ∙ ap (λ (t : List ℕ). isUnset (markOf (build (c .before .before .before .args .g)) t (okAt (build
+    (c .before .before .before .args .g))))) (c .before .slot-trailer .ensures)
 
 pub ok-is-unset-spec : {M : Type 1} → statement M
 ok-is-unset-spec = tie.close (tie.spec slot-trailer-requires ok-unset-requires returns)

@@ -36,11 +36,16 @@ loop-again : tie.Need-loop-again Inv-loop μ-loop
 unfolding erasesIn
 loop-again c =
     let i : ℕ = c .before .before .before .before .before .loop .i in
-    let d : c .before .before .before .before .before .before .before .args .count - i ≡ suc (c .before .before .before .before .before .before .before .args .count - (i + 1)) = omega arith in (
+    let d : c .before .before .before .before .before .before .before .args .count - i ≡ suc
+    (c .before .before .before .before .before .before .before .args .count - (i + 1)) = omega arith in (
       omega arith,
       search needs,
-      c .before .before .before .before .before .loop .inv .2 ∙ ap (λ (k : ℕ). erasesIn (c .before .before .before .before .before .before .before .args .g) i k (local (c .before .before .before .before .before .loop .area) (c .before .before .before .before .before .loop .r))) d
-          ∙ ap₂ (λ (k : ℕ) (l : Local). erasesIn (c .before .before .before .before .before .before .before .args .g) k (c .before .before .before .before .before .before .before .args .count - (i + 1)) l) (sym (add-one i)) (sym (c .before .before .erase .ensures)),
+      c .before .before .before .before .before .loop .inv .2 ∙ ap (λ (k : ℕ). erasesIn
+          (c .before .before .before .before .before .before .before .args .g) i k (local
+          (c .before .before .before .before .before .loop .area) (c .before .before .before .before .before .loop .r))) d
+          ∙ ap₂ (λ (k : ℕ) (l : Local). erasesIn (c .before .before .before .before .before .before .before .args .g) k
+          (c .before .before .before .before .before .before .before .args .count - (i + 1)) l) (sym (add-one i)) (sym
+          (c .before .before .erase .ensures)),
     )
 
 same-length : tie.Need-same-length Inv-loop μ-loop
@@ -50,7 +55,8 @@ returns : tie.Need-returns Inv-loop μ-loop
 unfolding erasesIn
 returns c =
     let z : c .before .before .before .args .count - c .before .loop .i ≡ 0 = omega arith in
-    sym (c .before .loop .inv .2 ∙ ap (λ (k : ℕ). erasesIn (c .before .before .before .args .g) (c .before .loop .i) k (local (c .before .loop .area) (c .before .loop .r))) z)
+    sym (c .before .loop .inv .2 ∙ ap (λ (k : ℕ). erasesIn (c .before .before .before .args .g) (c .before .loop .i) k (local
+    (c .before .loop .area) (c .before .loop .r))) z)
 
 pub erase-sectors-spec : {M : Type 1} → statement M
 erase-sectors-spec =

@@ -24,8 +24,13 @@ same-length c = search needs
 returns : tie.Need-returns
 unfolding lineFiveIn base
 returns c =
-    let i = trailerSector (build (c .before .before .before .before .before .before .before .before .before .before .before .before .before .before .args .g)) Area.slot0 in
-    c .before .before .write-magic .ensures ∙ ap (magicIn (c .before .before .before .before .before .before .before .before .before .before .before .before .before .before .args .g) i) (c .before .before .before .before .before .before .three-marks .ensures ∙ ap (threeIn (c .before .before .before .before .before .before .before .before .before .before .before .before .before .before .args .g) i) (c .before .before .before .before .before .before .before .before .before .before .write-ok .ensures))
+    let i = trailerSector (build
+    (c .before .before .before .before .before .before .before .before .before .before .before .before .before .before .args .g)) Area.slot0 in
+    c .before .before .write-magic .ensures ∙ ap (magicIn
+    (c .before .before .before .before .before .before .before .before .before .before .before .before .before .before .args .g) i)
+    (c .before .before .before .before .before .before .three-marks .ensures ∙ ap (threeIn
+    (c .before .before .before .before .before .before .before .before .before .before .before .before .before .before .args .g) i)
+    (c .before .before .before .before .before .before .before .before .before .before .write-ok .ensures))
 
 pub line-five-spec : {M : Type 1} → statement M
 line-five-spec =

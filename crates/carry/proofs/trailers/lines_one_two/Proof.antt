@@ -21,8 +21,14 @@ same-length c = search needs
 returns : tie.Need-returns
 unfolding beginIn base
 returns c =
-    let i = trailerSector (build (c .before .before .before .before .before .before .before .before .before .before .before .before .before .args .g)) Area.scratch in
-    c .before .before .write-magic .ensures ∙ ap (magicIn (c .before .before .before .before .before .before .before .before .before .before .before .before .before .args .g) i) (c .before .before .before .before .before .before .write-ok .ensures ∙ ap (okIn (c .before .before .before .before .before .before .before .before .before .before .before .before .before .args .g) i (c .before .before .before .before .before .before .before .before .before .before .before .before .before .args .lasting)) (c .before .before .before .before .before .before .before .before .before .before .erase .ensures))
+    let i = trailerSector (build
+    (c .before .before .before .before .before .before .before .before .before .before .before .before .before .args .g)) Area.scratch in
+    c .before .before .write-magic .ensures ∙ ap (magicIn
+    (c .before .before .before .before .before .before .before .before .before .before .before .before .before .args .g) i)
+    (c .before .before .before .before .before .before .write-ok .ensures ∙ ap (okIn
+    (c .before .before .before .before .before .before .before .before .before .before .before .before .before .args .g) i
+    (c .before .before .before .before .before .before .before .before .before .before .before .before .before .args .lasting))
+    (c .before .before .before .before .before .before .before .before .before .before .erase .ensures))
 
 pub lines-one-two-spec : {M : Type 1} → statement M
 lines-one-two-spec =

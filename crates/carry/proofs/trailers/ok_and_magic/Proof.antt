@@ -21,7 +21,10 @@ same-length c = search needs
 returns : tie.Need-returns
 unfolding base
 returns c =
-    c .before .before .write-magic .ensures ∙ ap (magicIn (c .before .before .before .before .before .before .before .before .before .before .args .g) (trailerSector (build (c .before .before .before .before .before .before .before .before .before .before .args .g)) Area.slot1)) (c .before .before .before .before .before .before .write-ok .ensures)
+    c .before .before .write-magic .ensures ∙ ap (magicIn
+    (c .before .before .before .before .before .before .before .before .before .before .args .g) (trailerSector (build
+    (c .before .before .before .before .before .before .before .before .before .before .args .g)) Area.slot1))
+    (c .before .before .before .before .before .before .write-ok .ensures)
 
 pub ok-and-magic-spec : {M : Type 1} → statement M
 ok-and-magic-spec =

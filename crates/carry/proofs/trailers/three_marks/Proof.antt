@@ -22,10 +22,13 @@ same-length c = search needs
 returns : tie.Need-returns
 unfolding threeIn base
 returns c =
-    let i = trailerSector (build (c .before .before .before .before .before .before .before .before .before .before .before .before .before .args .g)) Area.slot0 in
+    let i = trailerSector (build
+    (c .before .before .before .before .before .before .before .before .before .before .before .before .before .args .g)) Area.slot0 in
     c .before .before .write-progress3 .ensures
     ∙ ap (markIn (c .before .before .before .before .before .before .before .before .before .before .before .before .before .args .g) i (markAt (build (c .before .before .before .before .before .before .before .before .before .before .before .before .before .args .g)) 2) 3)
-    (c .before .before .before .before .before .before .write-progress2 .ensures ∙ ap (markIn (c .before .before .before .before .before .before .before .before .before .before .before .before .before .args .g) i (markAt (build (c .before .before .before .before .before .before .before .before .before .before .before .before .before .args .g)) 1) 2) (c .before .before .before .before .before .before .before .before .before .before .write-progress .ensures))
+    (c .before .before .before .before .before .before .write-progress2 .ensures ∙ ap (markIn
+    (c .before .before .before .before .before .before .before .before .before .before .before .before .before .args .g) i (markAt
+    (build (c .before .before .before .before .before .before .before .before .before .before .before .before .before .args .g)) 1) 2) (c .before .before .before .before .before .before .before .before .before .before .write-progress .ensures))
 
 pub three-marks-spec : {M : Type 1} → statement M
 three-marks-spec =

@@ -37,8 +37,19 @@ div-write-units c = search needs
 write-units-requires : tie.Need-write-units-requires
 unfolding base
 write-units-requires c κs =
-    let e : c .before .before .before .before .before .magic-place .result .0 ≡ c .before .before .before .before .before .before .before .args .g .sector - 16 = ap (λ (o : Offset). o .0) (c .before .before .before .before .before .magic-place .ensures) in
-    (c .before .before .before .before .before .before .before .pre .0, omega (arith, e, c .before .before .before .before .unit-in .ensures .1, div-le-self 16 (c .before .before .before .before .before .before .before .args .g .unit), c .before .before .before .before .before .before .before .pre .0 .room))
+    let e : c .before .before .before .before .before .magic-place .result .0
+    ≡ c .before .before .before .before .before .before .before .args .g .sector - 16 = ap (λ (o : Offset). o .0)
+    (c .before .before .before .before .before .magic-place .ensures) in (
+      c .before .before .before .before .before .before .before .pre .0,
+      omega (
+        arith,
+        e,
+        c .before .before .before .before .unit-in .ensures .1,
+        div-le-self 16
+            (c .before .before .before .before .before .before .before .args .g .unit),
+        c .before .before .before .before .before .before .before .pre .0 .room,
+      ),
+    )
 
 same-length : tie.Need-same-length
 same-length c = search needs
@@ -47,11 +58,23 @@ returns : tie.Need-returns
 unfolding magicIn
 returns c =
     let n : ℕ = 16 / c .before .before .before .before .before .before .before .before .before .before .args .g .unit in
-    let l : Local = local (c .before .before .before .before .before .before .before .before .before .before .args .area .now) (c .before .before .before .before .before .before .before .before .before .before .args .run) in
+    let l : Local = local (c .before .before .before .before .before .before .before .before .before .before .args .area .now)
+    (c .before .before .before .before .before .before .before .before .before .before .args .run) in
     c .before .before .write-units .ensures
-    ∙ ap₂ (λ (u : Unit) (bs : List ℕ). writeAllIn (c .before .before .before .before .before .before .before .before .before .before .args .g) u n (part bs 0 (n * c .before .before .before .before .before .before .before .before .before .before .args .g .unit)) l)
-    (c .before .before .before .before .before .before .before .unit-in .ensures .0 ∙ ap (λ (o : Offset). unitAt (c .before .before .before .before .before .before .before .before .before .before .args .g) (after (startOf (c .before .before .before .before .before .before .before .before .before .before .args .g) (c .before .before .before .before .before .before .before .before .before .before .args .i)) o)) (c .before .before .before .before .before .before .before .before .magic-place .ensures)) (c .before .before .before .before .before .before .magic-bytes .ensures)
-    ∙ own-bytes (c .before .before .before .before .before .before .before .before .before .before .args .g) n (unitAt (c .before .before .before .before .before .before .before .before .before .before .args .g) (after (startOf (c .before .before .before .before .before .before .before .before .before .before .args .g) (c .before .before .before .before .before .before .before .before .before .before .args .i)) (magicAt (build (c .before .before .before .before .before .before .before .before .before .before .args .g))))) magicBytes l
+    ∙ ap₂ (λ (u : Unit) (bs : List ℕ). writeAllIn
+    (c .before .before .before .before .before .before .before .before .before .before .args .g) u n (part bs 0
+    (n * c .before .before .before .before .before .before .before .before .before .before .args .g .unit)) l)
+    (c .before .before .before .before .before .before .before .unit-in .ensures .0 ∙ ap (λ (o : Offset). unitAt
+    (c .before .before .before .before .before .before .before .before .before .before .args .g) (after (startOf
+    (c .before .before .before .before .before .before .before .before .before .before .args .g)
+    (c .before .before .before .before .before .before .before .before .before .before .args .i)) o))
+    (c .before .before .before .before .before .before .before .before .magic-place .ensures))
+    (c .before .before .before .before .before .before .magic-bytes .ensures)
+    ∙ own-bytes (c .before .before .before .before .before .before .before .before .before .before .args .g) n (unitAt
+    (c .before .before .before .before .before .before .before .before .before .before .args .g) (after (startOf
+    (c .before .before .before .before .before .before .before .before .before .before .args .g)
+    (c .before .before .before .before .before .before .before .before .before .before .args .i)) (magicAt (build
+    (c .before .before .before .before .before .before .before .before .before .before .args .g))))) magicBytes l
 
 pub write-magic-spec : {M : Type 1} → statement M
 write-magic-spec =

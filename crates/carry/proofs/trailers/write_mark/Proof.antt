@@ -25,8 +25,19 @@ returns : tie.Need-returns
 unfolding markIn
 returns c =
     c .before .before .write-units .ensures
-    ∙ mark-unit (c .before .before .before .before .before .before .before .args .g) (c .before .before .before .before .before .unit-in .result) (c .before .before .before .before .before .before .before .args .value) (local (c .before .before .before .before .before .before .before .args .area .now) (c .before .before .before .before .before .before .before .args .run)) (omega (arith, c .before .before .before .before .before .before .before .pre)) (omega (arith, c .before .before .before .before .before .before .before .pre))
-    ∙ ap (λ (u : Unit). writeIn (c .before .before .before .before .before .before .before .args .g) u (markBytes (build (c .before .before .before .before .before .before .before .args .g)) (c .before .before .before .before .before .before .before .args .value)) (local (c .before .before .before .before .before .before .before .args .area .now) (c .before .before .before .before .before .before .before .args .run))) (c .before .before .before .before .before .unit-in .ensures .0)
+    ∙ mark-unit (c .before .before .before .before .before .before .before .args .g)
+    (c .before .before .before .before .before .unit-in .result)
+    (c .before .before .before .before .before .before .before .args .value) (local
+    (c .before .before .before .before .before .before .before .args .area .now)
+    (c .before .before .before .before .before .before .before .args .run)) (omega
+    (arith, c .before .before .before .before .before .before .before .pre)) (omega
+    (arith, c .before .before .before .before .before .before .before .pre))
+    ∙ ap (λ (u : Unit). writeIn (c .before .before .before .before .before .before .before .args .g) u (markBytes (build
+    (c .before .before .before .before .before .before .before .args .g))
+    (c .before .before .before .before .before .before .before .args .value)) (local
+    (c .before .before .before .before .before .before .before .args .area .now)
+    (c .before .before .before .before .before .before .before .args .run)))
+    (c .before .before .before .before .before .unit-in .ensures .0)
 
 pub write-mark-spec : {M : Type 1} → statement M
 write-mark-spec =

@@ -16,8 +16,15 @@ ok-place-requires c κs = search needs
 write-mark-requires : tie.Need-write-mark-requires
 unfolding base
 write-mark-requires c κs =
-    let e : c .before .ok-place .result .0 ≡ c .before .before .before .before .args .g .sector - 24 = ap (λ (o : Offset). o .0) (c .before .ok-place .ensures) in
-    (c .before .before .before .before .pre .0, (c .before .before .before .before .pre .1, omega (arith, e, c .before .before .before .before .pre .0 .room)))
+    let e : c .before .ok-place .result .0 ≡ c .before .before .before .before .args .g .sector - 24 = ap (λ (o : Offset). o .0)
+    (c .before .ok-place .ensures) in (
+      c .before .before .before .before .pre .0,
+      (
+        c .before .before .before .before .pre .1,
+        omega
+            (arith, e, c .before .before .before .before .pre .0 .room),
+      ),
+    )
 
 same-length : tie.Need-same-length
 same-length c = search needs
@@ -26,12 +33,21 @@ returns : tie.Need-returns
 unfolding okIn
 returns c =
     c .before .before .write-mark .ensures
-    ∙ ap (λ (o : Offset). markIn (c .before .before .before .before .before .before .before .args .g) (c .before .before .before .before .before .before .before .args .i) o 1 (local (c .before .before .before .before .before .before .before .args .area .now) (c .before .before .before .before .before .before .before .args .run))) (c .before .before .before .before .ok-place .ensures)
-    ∙ ap (λ (b : Bool). okIn (c .before .before .before .before .before .before .before .args .g) (c .before .before .before .before .before .before .before .args .i) b (local (c .before .before .before .before .before .before .before .args .area .now) (c .before .before .before .before .before .before .before .args .run))) (sym (c .before .before .before .before .before .if1 .taken))
+    ∙ ap (λ (o : Offset). markIn (c .before .before .before .before .before .before .before .args .g)
+    (c .before .before .before .before .before .before .before .args .i) o 1 (local
+    (c .before .before .before .before .before .before .before .args .area .now)
+    (c .before .before .before .before .before .before .before .args .run))) (c .before .before .before .before .ok-place .ensures)
+    ∙ ap (λ (b : Bool). okIn (c .before .before .before .before .before .before .before .args .g)
+    (c .before .before .before .before .before .before .before .args .i) b (local
+    (c .before .before .before .before .before .before .before .args .area .now)
+    (c .before .before .before .before .before .before .before .args .run))) (sym
+    (c .before .before .before .before .before .if1 .taken))
 
 returns-2 : tie.Need-returns-2
 unfolding okIn
-returns-2 c = ap (λ (b : Bool). okIn (c .before .before .args .g) (c .before .before .args .i) b (local (c .before .before .args .area .now) (c .before .before .args .run))) (sym (c .if1 .left))
+returns-2 c =
+    ap (λ (b : Bool). okIn (c .before .before .args .g) (c .before .before .args .i) b (local (c .before .before .args .area .now)
+    (c .before .before .args .run))) (sym (c .if1 .left))
 
 pub write-ok-spec : {M : Type 1} → statement M
 write-ok-spec =

@@ -26,9 +26,17 @@ sub-t7 c = search needs
 write-mark-requires : tie.Need-write-mark-requires
 unfolding base
 write-mark-requires c κs =
-    let e : c .before .before .mark-place .result .0 ≡ c .before .before .before .before .args .g .sector - 32 - 3 * c .before .before .before .before .args .g .sectors * c .before .before .before .before .args .g .unit + c .before .before .before .before .args .k * c .before .before .before .before .args .g .unit = ap (λ (o : Offset). o .0) (c .before .before .mark-place .ensures) in
-    let f = marks-fit (c .before .before .before .before .args .g) (c .before .before .before .before .args .k) (c .before .before .before .before .pre .0) (omega arith) in
-    (c .before .before .before .before .pre .0, (omega arith, omega (arith, e, f .all, f .before, c .before .before .before .before .pre .0 .room)))
+    let e : c .before .before .mark-place .result .0
+    ≡ c .before .before .before .before .args .g .sector - 32 - 3 * c .before .before .before .before .args .g .sectors * c .before .before .before .before .args .g .unit + c .before .before .before .before .args .k * c .before .before .before .before .args .g .unit = ap (λ (o : Offset). o .0) (c .before .before .mark-place .ensures) in
+    let f = marks-fit (c .before .before .before .before .args .g) (c .before .before .before .before .args .k)
+    (c .before .before .before .before .pre .0) (omega arith) in (
+      c .before .before .before .before .pre .0,
+      (
+        omega arith,
+        omega
+            (arith, e, f .all, f .before, c .before .before .before .before .pre .0 .room),
+      ),
+    )
 
 same-length : tie.Need-same-length
 same-length c = search needs
@@ -37,7 +45,12 @@ returns : tie.Need-returns
 unfolding base
 returns c =
     c .before .before .write-mark .ensures
-    ∙ ap (λ (o : Offset). markIn (c .before .before .before .before .before .before .before .args .g) (sectorNo (c .before .before .before .before .before .before .before .args .g .sectors - 1)) o (1 + c .before .before .before .before .before .before .before .args .k % 3) (local (c .before .before .before .before .before .before .before .args .slot0 .now) (c .before .before .before .before .before .before .before .args .run))) (c .before .before .before .before .before .mark-place .ensures)
+    ∙ ap (λ (o : Offset). markIn (c .before .before .before .before .before .before .before .args .g) (sectorNo
+    (c .before .before .before .before .before .before .before .args .g .sectors - 1)) o
+    (1 + c .before .before .before .before .before .before .before .args .k % 3) (local
+    (c .before .before .before .before .before .before .before .args .slot0 .now)
+    (c .before .before .before .before .before .before .before .args .run)))
+    (c .before .before .before .before .before .mark-place .ensures)
 
 pub write-progress-spec : {M : Type 1} → statement M
 write-progress-spec =

@@ -46,10 +46,13 @@ use Rattle.image.proofs.Step as S
 use Rattle.image.proofs.Step.Laws as S′
 use Rattle.image.proofs.reader.new as new
 use Rattle.image.proofs.reader.new.Symbol as new-def
+use Rattle.image.proofs.reader.new.Symbol.{name as #reader·new}
 use Rattle.image.proofs.reader.new.Met as new-thm
 use Rattle.image.proofs.reader.next as next
 use Rattle.image.proofs.reader.next.Symbol as next-def
+use Rattle.image.proofs.reader.next.Symbol.{name as #reader·next}
 use Rattle.image.proofs.reader.next.Met as next-thm
+use Rattle.image.proofs.reader.first.Key.{name as #reader·first}
 use Rattle.image.proofs.reader.first as first
 use Rattle.image.proofs.reader.first.Statement as stated
 use Rattle.image.proofs.reader.first.Code as code

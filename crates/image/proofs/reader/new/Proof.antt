@@ -38,6 +38,7 @@ use denote.Exit.{yes}
 use Rattle.image.specs.declared.reader.Reader.{Reader}
 use Rattle.image.proofs.reader.Reader as T
 use Rattle.image.proofs.reader.Reader.Laws as T′
+use Rattle.image.proofs.reader.new.Key.{name as #reader·new}
 use Rattle.image.proofs.reader.new as new
 use Rattle.image.proofs.reader.new.Statement as stated
 use Rattle.image.proofs.reader.new.Code as code

@@ -21,8 +21,17 @@ ok-and-magic-requires c κs = search needs
 
 written-requires : tie.Need-written-requires
 written-requires c κs =
-    left-of (c .before .before .before .before .before .before .before .before .before .args .g) (okOps (build (c .before .before .before .before .before .before .before .before .before .args .g)) Area.slot1 (c .before .before .before .before .before .before .before .before .before .args .permanent) ++ magicOps (build (c .before .before .before .before .before .before .before .before .before .args .g)) Area.slot1) (state [] _ [] (c .before .before .ok-and-magic .result)) (c .before .before .before .before .mark-writes .result) (flashOf [] (c .before .before .before .before .before .before .before .before .before .args .slot1 .now) [])
-    (marked-state (c .before .before .before .before .before .before .before .before .before .args .g) [] (c .before .before .before .before .before .before .before .before .before .args .slot1 .now) [] (c .before .before .before .before .mark-writes .result) (c .before .before .before .before .before .before .before .before .before .args .permanent) _ _ (c .before .before .ok-and-magic .ensures))
+    left-of (c .before .before .before .before .before .before .before .before .before .args .g) (okOps (build
+    (c .before .before .before .before .before .before .before .before .before .args .g)) Area.slot1
+    (c .before .before .before .before .before .before .before .before .before .args .permanent) ++ magicOps (build
+    (c .before .before .before .before .before .before .before .before .before .args .g)) Area.slot1) (state [] _ []
+    (c .before .before .ok-and-magic .result)) (c .before .before .before .before .mark-writes .result) (flashOf []
+    (c .before .before .before .before .before .before .before .before .before .args .slot1 .now) [])
+    (marked-state (c .before .before .before .before .before .before .before .before .before .args .g) []
+    (c .before .before .before .before .before .before .before .before .before .args .slot1 .now) []
+    (c .before .before .before .before .mark-writes .result)
+    (c .before .before .before .before .before .before .before .before .before .args .permanent) _ _
+    (c .before .before .ok-and-magic .ensures))
 
 refuse-requires : tie.Need-refuse-requires
 refuse-requires c κs = search needs
@@ -33,8 +42,14 @@ same-length c = search needs
 returns : tie.Need-returns
 returns c =
     λ x0 x2.
-    marks-written (c .before .before .before .before .before .before .before .before .before .before .args .g) x0 (c .before .before .before .before .before .before .before .before .before .before .args .slot1 .now) x2 (c .written .result) (c .before .before .before .before .before .before .before .before .before .before .args .permanent) (c .before .before .before .before .before .mark-writes .result) _ _ (c .before .before .before .before .before .mark-writes .ensures)
-    (sym (c .before .before .before .before .before .before .before .is-unmarked .ensures) ∙ c .before .before .before .before .before .before .if1 .taken) (c .before .before .before .ok-and-magic .ensures) (c .written .ensures)
+    marks-written (c .before .before .before .before .before .before .before .before .before .before .args .g) x0
+    (c .before .before .before .before .before .before .before .before .before .before .args .slot1 .now) x2 (c .written .result)
+    (c .before .before .before .before .before .before .before .before .before .before .args .permanent)
+    (c .before .before .before .before .before .mark-writes .result) _ _
+    (c .before .before .before .before .before .mark-writes .ensures)
+    (sym (c .before .before .before .before .before .before .before .is-unmarked .ensures)
+    ∙ c .before .before .before .before .before .before .if1 .taken) (c .before .before .before .ok-and-magic .ensures)
+    (c .written .ensures)
 
 same-length-2 : tie.Need-same-length-2
 same-length-2 c = search needs
@@ -42,7 +57,10 @@ same-length-2 c = search needs
 returns-2 : tie.Need-returns-2
 returns-2 c =
     λ x0 x2.
-    marks-refused (c .before .before .before .before .before .args .g) x0 (c .before .before .before .before .before .args .slot1 .now) x2 (c .refuse .result) (c .before .before .before .before .before .args .permanent) (sym (c .before .before .is-unmarked .ensures) ∙ c .before .if1 .left) (c .refuse .ensures)
+    marks-refused (c .before .before .before .before .before .args .g) x0
+    (c .before .before .before .before .before .args .slot1 .now) x2 (c .refuse .result)
+    (c .before .before .before .before .before .args .permanent) (sym (c .before .before .is-unmarked .ensures)
+    ∙ c .before .if1 .left) (c .refuse .ensures)
 
 pub mark-free-spec : {M : Type 1} → statement M
 mark-free-spec =

@@ -15,11 +15,15 @@ enum-known-cause c = search needs
 
 returns : tie.Need-returns
 unfolding judgedStart
-returns c = ap (judgedStart (c .before .before .before .before .args .offset)) (sym (c .enum-told .given .1) ∙ c .before .before .check .ensures)
+returns c =
+    ap (judgedStart (c .before .before .before .before .args .offset)) (sym (c .enum-told .given .1)
+    ∙ c .before .before .check .ensures)
 
 returns-2 : tie.Need-returns-2
 unfolding judgedStart
-returns-2 c = ap (judgedStart (c .before .before .before .before .before .args .offset)) (sym (c .before .cause .given .1) ∙ c .before .before .before .check .ensures)
+returns-2 c =
+    ap (judgedStart (c .before .before .before .before .before .args .offset)) (sym (c .before .cause .given .1)
+    ∙ c .before .before .before .check .ensures)
 
 pub checked-boot-spec : {M : Type 1} → statement M
 checked-boot-spec =

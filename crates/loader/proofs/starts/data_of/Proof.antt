@@ -14,20 +14,26 @@ sub-least : tie.Need-sub-least
 sub-least c = search needs
 
 mul-least : tie.Need-mul-least
-mul-least c = omega (arith, mul-le-mul {n₁ = c .before .before .before .args .g .sectors - 1} {m₁ = c .before .before .before .args .g .sector} {n₂ = 128} {m₂ = 65536} (omega (arith, c .before .before .before .pre)) (omega (arith, c .before .before .before .pre)))
+mul-least c =
+    omega (arith, mul-le-mul {n₁ = c .before .before .before .args .g .sectors - 1} {m₁ = c .before .before .before .args .g .sector} {n₂ = 128} {m₂ = 65536} (omega (arith, c .before .before .before .pre)) (omega (arith, c .before .before .before .pre)))
 
 least-requires : tie.Need-least-requires
 least-requires c κs = search needs
 
 slice-aggregate-result : tie.Need-slice-aggregate-result
-slice-aggregate-result c = sym (length-take-le (c .before .least .result) (c .before .before .before .before .before .args .slot .now) (omega (arith, c .before .least .ensures)))
+slice-aggregate-result c =
+    sym (length-take-le (c .before .least .result) (c .before .before .before .before .before .args .slot .now) (omega
+    (arith, c .before .least .ensures)))
 
 returns : tie.Need-returns
 unfolding dataOf
 returns c =
     let n : ℕ = (c .before .before .before .before .before .args .g .sectors - 1) * c .before .before .before .before .before .args .g .sector in
     ap (λ (k : ℕ). take k (c .before .before .before .before .before .args .slot .now)) (c .before .least .ensures)
-    ∙ sym (take-min (length (c .before .before .before .before .before .args .slot .now)) n (c .before .before .before .before .before .args .slot .now)) ∙ take-all (length (c .before .before .before .before .before .args .slot .now)) (take n (c .before .before .before .before .before .args .slot .now)) (simp length-take (omega arith))
+    ∙ sym (take-min (length (c .before .before .before .before .before .args .slot .now)) n
+    (c .before .before .before .before .before .args .slot .now)) ∙ take-all (length
+    (c .before .before .before .before .before .args .slot .now)) (take n
+    (c .before .before .before .before .before .args .slot .now)) (simp length-take (omega arith))
 
 pub data-of-spec : {M : Type 1} → statement M
 data-of-spec =

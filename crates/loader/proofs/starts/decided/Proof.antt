@@ -26,19 +26,44 @@ judge-requires c κs = search needs
 returns : tie.Need-returns
 unfolding dataOf
 returns c =
-    let e : c .judge .result ≡ decide accepted (build (c .before .before .before .before .before .before .before .before .args .g)) (flashOf (c .before .before .before .before .before .before .before .before .args .slot0 .now) (c .before .before .before .before .before .before .before .before .args .slot1 .now) (c .before .before .before .before .before .before .before .before .args .scratch .now)) =
-    c .judge .ensures ∙ ap₂ judged (c .before .slot-accepted .ensures) (c .before .before .before .before .asks .ensures) ∙ sym (decide-checked accepted (c .before .before .before .before .before .before .before .before .args .g) (flashOf (c .before .before .before .before .before .before .before .before .args .slot0 .now) (c .before .before .before .before .before .before .before .before .args .slot1 .now) (c .before .before .before .before .before .before .before .before .args .scratch .now))) in (
+    let e : c .judge .result ≡ decide accepted (build (c .before .before .before .before .before .before .before .before .args .g))
+    (flashOf (c .before .before .before .before .before .before .before .before .args .slot0 .now)
+    (c .before .before .before .before .before .before .before .before .args .slot1 .now)
+    (c .before .before .before .before .before .before .before .before .args .scratch .now)) =
+    c .judge .ensures ∙ ap₂ judged (c .before .slot-accepted .ensures) (c .before .before .before .before .asks .ensures) ∙ sym
+    (decide-checked accepted (c .before .before .before .before .before .before .before .before .args .g) (flashOf
+    (c .before .before .before .before .before .before .before .before .args .slot0 .now)
+    (c .before .before .before .before .before .before .before .before .args .slot1 .now)
+    (c .before .before .before .before .before .before .before .before .args .scratch .now))) in (
       e,
-      ap (inBounds (build (c .before .before .before .before .before .before .before .before .args .g))) (c .judge .ensures ∙ ap (judged _) (c .before .before .before .before .asks .ensures))
-          ∙ judged-bounded (build (c .before .before .before .before .before .before .before .before .args .g)) (c .before .slot-accepted .result) (askedBy (c .before .before .before .before .before .before .before .before .args .g) (flashOf (c .before .before .before .before .before .before .before .before .args .slot0 .now) (c .before .before .before .before .before .before .before .before .args .slot1 .now) (c .before .before .before .before .before .before .before .before .args .scratch .now))) (asks-bounded (build (c .before .before .before .before .before .before .before .before .args .g)) _ _ _),
+      ap (inBounds (build (c .before .before .before .before .before .before .before .before .args .g))) (c .judge .ensures ∙ ap
+          (judged _) (c .before .before .before .before .asks .ensures))
+          ∙ judged-bounded (build (c .before .before .before .before .before .before .before .before .args .g))
+          (c .before .slot-accepted .result) (askedBy (c .before .before .before .before .before .before .before .before .args .g)
+          (flashOf (c .before .before .before .before .before .before .before .before .args .slot0 .now)
+          (c .before .before .before .before .before .before .before .before .args .slot1 .now)
+          (c .before .before .before .before .before .before .before .before .args .scratch .now))) (asks-bounded (build
+          (c .before .before .before .before .before .before .before .before .args .g)) _ _ _),
     )
 
 returns-2 : tie.Need-returns-2
 returns-2 c =
-    let a : askedBy (c .before .before .before .before .before .before .args .g) (flashOf (c .before .before .before .before .before .before .args .slot0 .now) (c .before .before .before .before .before .before .args .slot1 .now) (c .before .before .before .before .before .before .args .scratch .now)) ≡ c .before .before .asks .result = sym (c .before .before .asks .ensures) in
-    let w : asksCheck (askedBy (c .before .before .before .before .before .before .args .g) (flashOf (c .before .before .before .before .before .before .args .slot0 .now) (c .before .before .before .before .before .before .args .slot1 .now) (c .before .before .before .before .before .before .args .scratch .now))) ≡ false = ap asksCheck a ∙ sym (c .before .wants-check .ensures) ∙ c .if1 .left in (
-      c .before .before .asks .ensures ∙ sym (decide-unchecked accepted (c .before .before .before .before .before .before .args .g) (flashOf (c .before .before .before .before .before .before .args .slot0 .now) (c .before .before .before .before .before .before .args .slot1 .now) (c .before .before .before .before .before .before .args .scratch .now)) w),
-      ap (inBounds (build (c .before .before .before .before .before .before .args .g))) (c .before .before .asks .ensures) ∙ asks-bounded (build (c .before .before .before .before .before .before .args .g)) _ _ _,
+    let a : askedBy (c .before .before .before .before .before .before .args .g) (flashOf
+    (c .before .before .before .before .before .before .args .slot0 .now)
+    (c .before .before .before .before .before .before .args .slot1 .now)
+    (c .before .before .before .before .before .before .args .scratch .now)) ≡ c .before .before .asks .result = sym
+    (c .before .before .asks .ensures) in
+    let w : asksCheck (askedBy (c .before .before .before .before .before .before .args .g) (flashOf
+    (c .before .before .before .before .before .before .args .slot0 .now)
+    (c .before .before .before .before .before .before .args .slot1 .now)
+    (c .before .before .before .before .before .before .args .scratch .now))) ≡ false = ap asksCheck a ∙ sym
+    (c .before .wants-check .ensures) ∙ c .if1 .left in (
+      c .before .before .asks .ensures ∙ sym (decide-unchecked accepted (c .before .before .before .before .before .before .args .g)
+          (flashOf (c .before .before .before .before .before .before .args .slot0 .now)
+          (c .before .before .before .before .before .before .args .slot1 .now)
+          (c .before .before .before .before .before .before .args .scratch .now)) w),
+      ap (inBounds (build (c .before .before .before .before .before .before .args .g))) (c .before .before .asks .ensures)
+          ∙ asks-bounded (build (c .before .before .before .before .before .before .args .g)) _ _ _,
     )
 
 pub decided-spec : {M : Type 1} → statement M

@@ -19,12 +19,14 @@ enum-told-2 c = search needs
 returns : tie.Need-returns
 unfolding accepted isAccepted
 returns c =
-    ap isAccepted (sym (c .enum-told .given .1) ∙ c .before .before .check .ensures ∙ ap check (c .before .before .before .data-of .ensures))
+    ap isAccepted (sym (c .enum-told .given .1) ∙ c .before .before .check .ensures ∙ ap check
+    (c .before .before .before .data-of .ensures))
 
 returns-2 : tie.Need-returns-2
 unfolding accepted isAccepted
 returns-2 c =
-    ap isAccepted (sym (c .enum-told2 .given .1) ∙ c .before .before .check .ensures ∙ ap check (c .before .before .before .data-of .ensures))
+    ap isAccepted (sym (c .enum-told2 .given .1) ∙ c .before .before .check .ensures ∙ ap check
+    (c .before .before .before .data-of .ensures))
 
 pub slot-accepted-spec : {M : Type 1} → statement M
 slot-accepted-spec =

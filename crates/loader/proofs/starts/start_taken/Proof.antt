@@ -32,9 +32,25 @@ same-length-3 c = search needs
 returns : tie.Need-returns
 returns c =
     let e = c .before .before .before .decided .ensures .0 in
-    let d : isDamage (c .before .before .before .decided .result) ≡ true = sym (c .before .before .is-damage .ensures) ∙ c .before .if1 .taken in
-    refusing (c .refuse .result) Refusal.Damage (flashOf (c .before .before .before .before .before .before .before .before .before .before .args .slot0 .now) (c .before .before .before .before .before .before .before .before .before .before .args .slot1 .now) (c .before .before .before .before .before .before .before .before .before .before .args .scratch .now)) (c .refuse .ensures) ∙ sym (damaged (c .before .before .before .before .before .before .before .before .before .before .args .checked) (c .before .before .before .before .before .before .before .before .before .before .args .g) (c .before .before .before .before .before .before .before .before .before .before .args .allowance) (flashOf (c .before .before .before .before .before .before .before .before .before .before .args .slot0 .now) (c .before .before .before .before .before .before .before .before .before .before .args .slot1 .now) (c .before .before .before .before .before .before .before .before .before .before .args .scratch .now)) (c .before .before .before .decided .result) d)
-    ∙ ap (onCourse (c .before .before .before .before .before .before .before .before .before .before .args .checked) (c .before .before .before .before .before .before .before .before .before .before .args .g) (c .before .before .before .before .before .before .before .before .before .before .args .allowance) (flashOf (c .before .before .before .before .before .before .before .before .before .before .args .slot0 .now) (c .before .before .before .before .before .before .before .before .before .before .args .slot1 .now) (c .before .before .before .before .before .before .before .before .before .before .args .scratch .now))) e
+    let d : isDamage (c .before .before .before .decided .result) ≡ true = sym (c .before .before .is-damage .ensures)
+    ∙ c .before .if1 .taken in
+    refusing (c .refuse .result) Refusal.Damage (flashOf
+    (c .before .before .before .before .before .before .before .before .before .before .args .slot0 .now)
+    (c .before .before .before .before .before .before .before .before .before .before .args .slot1 .now)
+    (c .before .before .before .before .before .before .before .before .before .before .args .scratch .now)) (c .refuse .ensures)
+    ∙ sym (damaged (c .before .before .before .before .before .before .before .before .before .before .args .checked)
+    (c .before .before .before .before .before .before .before .before .before .before .args .g)
+    (c .before .before .before .before .before .before .before .before .before .before .args .allowance) (flashOf
+    (c .before .before .before .before .before .before .before .before .before .before .args .slot0 .now)
+    (c .before .before .before .before .before .before .before .before .before .before .args .slot1 .now)
+    (c .before .before .before .before .before .before .before .before .before .before .args .scratch .now))
+    (c .before .before .before .decided .result) d)
+    ∙ ap (onCourse (c .before .before .before .before .before .before .before .before .before .before .args .checked)
+    (c .before .before .before .before .before .before .before .before .before .before .args .g)
+    (c .before .before .before .before .before .before .before .before .before .before .args .allowance) (flashOf
+    (c .before .before .before .before .before .before .before .before .before .before .args .slot0 .now)
+    (c .before .before .before .before .before .before .before .before .before .before .args .slot1 .now)
+    (c .before .before .before .before .before .before .before .before .before .before .args .scratch .now))) e
 
 same-length-4 : tie.Need-same-length-4
 same-length-4 c = search needs
@@ -49,7 +65,8 @@ returns-2 : tie.Need-returns-2
 returns-2 c =
     let e = c .before .before .before .before .before .before .before .before .before .before .before .before .decided .ensures .0 in
     let d : isDamage (c .before .before .before .before .before .before .before .before .before .before .before .before .decided .result) ≡ false = sym (c .before .before .before .before .before .before .before .before .before .before .before .is-damage .ensures) ∙ c .before .before .before .before .before .before .before .before .before .before .if1 .left in
-    c .before .before .before .before .before .before .take-course .ensures ∙ sym (undamaged (c .before .before .before .before .before .before .before .before .before .before .before .before .before .before .before .before .before .before .before .args .checked) (c .before .before .before .before .before .before .before .before .before .before .before .before .before .before .before .before .before .before .before .args .g) (c .before .before .before .before .before .before .before .before .before .before .before .before .before .before .before .before .before .before .before .args .allowance) (flashOf (c .before .before .before .before .before .before .before .before .before .before .before .before .before .before .before .before .before .before .before .args .slot0 .now) (c .before .before .before .before .before .before .before .before .before .before .before .before .before .before .before .before .before .before .before .args .slot1 .now) (c .before .before .before .before .before .before .before .before .before .before .before .before .before .before .before .before .before .before .before .args .scratch .now)) (c .before .before .before .before .before .before .before .before .before .before .before .before .decided .result) d)
+    c .before .before .before .before .before .before .take-course .ensures ∙ sym (undamaged
+    (c .before .before .before .before .before .before .before .before .before .before .before .before .before .before .before .before .before .before .before .args .checked) (c .before .before .before .before .before .before .before .before .before .before .before .before .before .before .before .before .before .before .before .args .g) (c .before .before .before .before .before .before .before .before .before .before .before .before .before .before .before .before .before .before .before .args .allowance) (flashOf (c .before .before .before .before .before .before .before .before .before .before .before .before .before .before .before .before .before .before .before .args .slot0 .now) (c .before .before .before .before .before .before .before .before .before .before .before .before .before .before .before .before .before .before .before .args .slot1 .now) (c .before .before .before .before .before .before .before .before .before .before .before .before .before .before .before .before .before .before .before .args .scratch .now)) (c .before .before .before .before .before .before .before .before .before .before .before .before .decided .result) d)
     ∙ ap (onCourse (c .before .before .before .before .before .before .before .before .before .before .before .before .before .before .before .before .before .before .before .args .checked) (c .before .before .before .before .before .before .before .before .before .before .before .before .before .before .before .before .before .before .before .args .g) (c .before .before .before .before .before .before .before .before .before .before .before .before .before .before .before .before .before .before .before .args .allowance) (flashOf (c .before .before .before .before .before .before .before .before .before .before .before .before .before .before .before .before .before .before .before .args .slot0 .now) (c .before .before .before .before .before .before .before .before .before .before .before .before .before .before .before .before .before .before .before .args .slot1 .now) (c .before .before .before .before .before .before .before .before .before .before .before .before .before .before .before .before .before .before .before .args .scratch .now))) e
 
 pub start-taken-spec : {M : Type 1} → statement M

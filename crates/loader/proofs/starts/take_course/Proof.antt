@@ -23,8 +23,14 @@ found-of-requires c κs = search needs
 sub-t20 : tie.Need-sub-t20
 sub-t20 c =
     let r = c .before .before .before .before .before .before .before .before .before .carry-out .ensures in
-    let left : c .before .before .before .before .before .before .before .before .before .carry-out .result .left ≡ _ = ap (λ (s : State). s .run .left) r in
-    omega (arith, left, steps-left (build (c .before .before .before .before .before .before .before .before .before .before .before .before .before .before .before .before .args .g)) (listOf (build (c .before .before .before .before .before .before .before .before .before .before .before .before .before .before .before .before .args .g)) (okUnset (build (c .before .before .before .before .before .before .before .before .before .before .before .before .before .before .before .before .args .g)) (flashOf (c .before .before .before .before .before .before .before .before .before .before .before .before .before .before .before .before .args .slot0 .now) (c .before .before .before .before .before .before .before .before .before .before .before .before .before .before .before .before .args .slot1 .now) (c .before .before .before .before .before .before .before .before .before .before .before .before .before .before .before .before .args .scratch .now))) (c .before .before .before .before .before .before .before .before .before .before .before .before .before .before .before .before .args .course)) (start (c .before .before .before .before .before .before .before .before .before .before .before .before .before .before .before .before .args .allowance) (flashOf (c .before .before .before .before .before .before .before .before .before .before .before .before .before .before .before .before .args .slot0 .now) (c .before .before .before .before .before .before .before .before .before .before .before .before .before .before .before .before .args .slot1 .now) (c .before .before .before .before .before .before .before .before .before .before .before .before .before .before .before .before .args .scratch .now))))
+    let left : c .before .before .before .before .before .before .before .before .before .carry-out .result .left ≡ _ = ap (λ
+    (s : State). s .run .left) r in
+    omega (
+      arith,
+      left,
+      steps-left (build
+          (c .before .before .before .before .before .before .before .before .before .before .before .before .before .before .before .before .args .g)) (listOf (build (c .before .before .before .before .before .before .before .before .before .before .before .before .before .before .before .before .args .g)) (okUnset (build (c .before .before .before .before .before .before .before .before .before .before .before .before .before .before .before .before .args .g)) (flashOf (c .before .before .before .before .before .before .before .before .before .before .before .before .before .before .before .before .args .slot0 .now) (c .before .before .before .before .before .before .before .before .before .before .before .before .before .before .before .before .args .slot1 .now) (c .before .before .before .before .before .before .before .before .before .before .before .before .before .before .before .before .args .scratch .now))) (c .before .before .before .before .before .before .before .before .before .before .before .before .before .before .before .before .args .course)) (start (c .before .before .before .before .before .before .before .before .before .before .before .before .before .before .before .before .args .allowance) (flashOf (c .before .before .before .before .before .before .before .before .before .before .before .before .before .before .before .before .args .slot0 .now) (c .before .before .before .before .before .before .before .before .before .before .before .before .before .before .before .before .args .slot1 .now) (c .before .before .before .before .before .before .before .before .before .before .before .before .before .before .before .before .args .scratch .now))),
+    )
 
 outcome-of-requires : tie.Need-outcome-of-requires
 outcome-of-requires c κs = search needs

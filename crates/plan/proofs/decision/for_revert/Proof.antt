@@ -17,7 +17,8 @@ magic-unset-requires c κs = search needs
 
 returns : tie.Need-returns
 returns c =
-    let good = sym (c .before .before .before .before .before .before .magic-good .ensures) ∙ c .before .before .before .before .before .if1 .taken in
+    let good = sym (c .before .before .before .before .before .before .magic-good .ensures)
+    ∙ c .before .before .before .before .before .if1 .taken in
     let ok = sym (c .before .before .before .before .ok-unset .ensures) ∙ c .before .before .before .if2 .taken in
     let done = sym (c .before .before .done-set .ensures) ∙ c .before .if3 .taken in
     rw (good, ok, done) (c .magic-unset .ensures)

@@ -36,7 +36,8 @@ same-length c =
 returns : tie.Need-returns
 returns c =
     let s = c .before .before .before .before .before .before .before .before .before .before in
-    ending-of _ _ _ _ _ _ _ (s .pre .0 .0) (omega arith) (omega arith) refl (s .pre .1) (c .before .before .before .before .before .before .copy .ensures) (c .before .before .put-length .ensures)
+    ending-of _ _ _ _ _ _ _ (s .pre .0 .0) (omega arith) (omega arith) refl (s .pre .1)
+    (c .before .before .before .before .before .before .copy .ensures) (c .before .before .put-length .ensures)
 
 pub finish-spec : {M : Type 1} → statement M
 finish-spec =

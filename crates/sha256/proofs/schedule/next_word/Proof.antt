@@ -67,7 +67,8 @@ returns c =
     c .wrapping-add-u323 .ensures
     ∙ ap (λ (x : ℕ). x ⊞ word 16)
     (far .wrapping-add-u322 .ensures
-    ∙ ap₂ _⊞_ (near .wrapping-add-u32 .ensures ∙ ap (λ (x : ℕ). x ⊞ word 7) (near .before .before .small1 .ensures)) (far .before .small0 .ensures))
+    ∙ ap₂ _⊞_ (near .wrapping-add-u32 .ensures ∙ ap (λ (x : ℕ). x ⊞ word 7) (near .before .before .small1 .ensures))
+    (far .before .small0 .ensures))
 
 pub next-word-spec : {M : Type 1} → statement M
 next-word-spec =
