@@ -42,7 +42,6 @@ dataSectors g scratch = g .spare
 abbrev pub trailerSector : Build → Area → Sector
 trailerSector g a = sectorNo (dataSectors g a)
 
--- the bytes of the three areas
 pub record Flash : Type 0 where
   pub in0 : List ℕ
   pub in1 : List ℕ

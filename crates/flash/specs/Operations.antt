@@ -80,7 +80,6 @@ erased g u xs = same (part xs (placeOf g u .0) (g .unit)) (blank (g .unit))
 unfoldable pub writeIn : Geometry → Unit → List ℕ → Local → Local
 writeIn g u bs l = attempt (erased g u (l .bytes)) (put (l .bytes) (placeOf g u .0) bs) l
 
--- k units in rising order
 unfoldable pub writeAllIn : Geometry → Unit → ℕ → List ℕ → Local → Local
 writeAllIn g u zero bs l = l
 writeAllIn g u (suc k) bs l = writeAllIn g (nextUnit u) k (drop (g .unit) bs) (writeIn g u (take (g .unit) bs) l)

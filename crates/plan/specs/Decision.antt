@@ -63,8 +63,6 @@ unfoldable pub decide : (List ℕ → Bool) → Build → Flash → Course
 decide check g f =
     judged (check (take (g .lent * g .sector) (f .in1))) (asks g (trailer g slot0 f) (trailer g slot1 f) (trailer g scratch f))
 
--- ---- what a course comes to
-
 -- the list of operations; unset: slot 0's image ok is Unset
 unfoldable pub listOf : Build → Bool → Course → List Op
 listOf g unset Damage = []

@@ -26,7 +26,6 @@ mark g a at v = write a (trailerUnit g a at) (markBytes g v)
 abbrev pub progress : Build → ℕ → Op
 progress g k = mark g slot0 (markAt g k) (g .value k)
 
--- k units in rising order
 unfoldable pub writes : Build → Area → Unit → ℕ → List ℕ → List Op
 writes g a u zero bs = []
 writes g a u (suc k) bs = write a u (take (g .unit) bs) ∷ writes g a (nextUnit u) k (drop (g .unit) bs)

@@ -72,7 +72,6 @@ markOf g t at =
     pick (same u (blank (g .unit))) Mark.Unset
     (pick (same (drop 1 u) (blank (g .unit - 1))) (Mark.Value (getD u 0 0)) Mark.Bad)
 
--- the bytes of a mark of value v
 unfoldable pub markBytes : Build → ℕ → List ℕ
 markBytes g v = v ∷ blank (g .unit - 1)
 
