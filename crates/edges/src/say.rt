@@ -1,28 +1,13 @@
-// A line for each edge: its name, what the loader answers, and whether the areas are as before.
-use crate::flashes::Area;
+// A line for each edge: its name, what the loader answers, and whether the flash is as before.
+use crate::flashes::Flash;
+use crate::lent;
 use scale::numbers::MarkNumbers;
 use scale::numbers::Numbers;
 
-fn copied(area: &[u8]) -> Area {
-    let mut copy = [0u8; 1024];
-    spans::copy(area, 0, &mut copy, 0, 1024);
+fn copied(flash: &Flash) -> Flash {
+    let mut copy = [0u8; 3072];
+    spans::copy(flash, 0, &mut copy, 0, 3072);
     copy
-}
-
-pub fn same(
-    slot0: &[u8],
-    slot1: &[u8],
-    scratch: &[u8],
-    was0: &Area,
-    was1: &Area,
-    was2: &Area,
-) -> bool {
-    if spans::stands(was0, 0, slot0) {
-        if spans::stands(was1, 0, slot1) {
-            return spans::stands(was2, 0, scratch);
-        }
-    }
-    false
 }
 
 fn write_name(name: &[u8]) {
@@ -30,7 +15,8 @@ fn write_name(name: &[u8]) {
     line::write(b": ");
 }
 
-fn write_answer(answer: Numbers) {
+fn write_answer(name: &[u8], answer: Numbers) {
+    write_name(name);
     line::write_answer(answer);
     if answer.cause != 0 {
         line::write(b" cause");
@@ -38,7 +24,8 @@ fn write_answer(answer: Numbers) {
     }
 }
 
-fn write_marked(marked: MarkNumbers) {
+fn write_marked(name: &[u8], marked: MarkNumbers) {
+    write_name(name);
     if marked.refusal == 0 {
         line::write(b"written");
         line::write_number(marked.count);
@@ -48,63 +35,66 @@ fn write_marked(marked: MarkNumbers) {
     }
 }
 
-fn write_same(is_same: bool) {
-    if is_same {
+pub fn same(flash: &Flash, other: &Flash) -> bool {
+    spans::stands(flash, 0, other)
+}
+
+fn end_line(flash: &Flash, was: &Flash) {
+    if same(flash, was) {
         line::write(b", as before\n");
     } else {
         line::write(b"\n");
     }
 }
 
-// The plain start in any geometry.
+// The plain start.
+pub fn start(name: &[u8], flash: &mut Flash, allowance: u64) {
+    let was = copied(flash);
+    write_answer(name, lent::start(flash, allowance));
+    end_line(flash, &was);
+}
+
+// The plain start in another geometry.
 pub fn start_in(
     name: &[u8],
+    flash: &mut Flash,
     unit: usize,
     sector: usize,
     sectors: usize,
-    slot0: &mut [u8],
-    slot1: &mut [u8],
-    scratch: &mut [u8],
-    allowance: u64,
+    slot: usize,
+    both: usize,
 ) {
-    let was0 = copied(slot0);
-    let was1 = copied(slot1);
-    let was2 = copied(scratch);
-    write_name(name);
-    write_answer(scale::scale_power_up(unit, sector, sectors, slot0, slot1, scratch, allowance));
-    write_same(same(slot0, slot1, scratch, &was0, &was1, &was2));
+    let was = copied(flash);
+    write_answer(
+        name,
+        lent::start_in(flash, unit, sector, sectors, slot, both),
+    );
+    end_line(flash, &was);
 }
 
-// The plain start.
-pub fn start(name: &[u8], slot0: &mut Area, slot1: &mut Area, scratch: &mut Area, allowance: u64) {
-    start_in(name, 1, 512, 2, slot0, slot1, scratch, allowance);
+// The full start with slot 0 checked.
+pub fn checked_start(name: &[u8], flash: &mut Flash) {
+    let was = copied(flash);
+    write_answer(name, lent::checked_start(flash));
+    end_line(flash, &was);
 }
 
-// The full start, with slot 0 checked, when nothing else is due.
-pub fn checked_start(name: &[u8], slot0: &mut Area, slot1: &mut Area, scratch: &mut Area) {
-    write_name(name);
-    write_answer(scale::scale_full_start(1, 512, 2, slot0, slot1, scratch, 0, true));
-    line::write(b"\n");
+pub fn mark(name: &[u8], flash: &mut Flash, permanent: bool) {
+    let was = copied(flash);
+    write_marked(name, lent::mark(flash, permanent));
+    end_line(flash, &was);
 }
 
-pub fn mark(name: &[u8], slot0: &mut Area, slot1: &mut Area, scratch: &mut Area, permanent: bool) {
-    let was1 = copied(slot1);
-    write_name(name);
-    write_marked(scale::scale_mark(1, 512, 2, slot0, slot1, scratch, permanent));
-    write_same(spans::stands(&was1, 0, slot1));
+pub fn confirm(name: &[u8], flash: &mut Flash) {
+    let was = copied(flash);
+    write_marked(name, lent::confirm(flash));
+    end_line(flash, &was);
 }
 
-pub fn confirm(name: &[u8], slot0: &mut Area, slot1: &mut Area, scratch: &mut Area) {
-    let was0 = copied(slot0);
-    write_name(name);
-    write_marked(scale::scale_confirm(1, 512, 2, slot0, slot1, scratch));
-    write_same(spans::stands(&was0, 0, slot0));
-}
-
-// A byte of an area.
-pub fn byte(name: &[u8], area: &Area, at: usize) {
+// A byte of the flash.
+pub fn byte(name: &[u8], flash: &Flash, at: usize) {
     line::write(name);
     line::write(b":");
-    line::write_number(spans::byte_at(area, at) as u64);
+    line::write_number(spans::byte_at(flash, at) as u64);
     line::write(b"\n");
 }

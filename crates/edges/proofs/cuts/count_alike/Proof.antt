@@ -4,11 +4,11 @@ use Rattle.edges.proofs.cuts.count_alike.Statement.{statement}
 use Rattle.edges.proofs.cuts.count_alike.Tie as tie
 
 abbrev Inv-loop : tie.InvT-loop
-Inv-loop slot0₀ slot1₀ scratch₀ kind length count₀ operations₀ slot0 slot1 scratch count operations =
+Inv-loop flash₀ kind length count₀ operations₀ flash count operations =
     operations ≤ length
 
 abbrev μ-loop : tie.MeasureT-loop
-μ-loop slot0₀ slot1₀ scratch₀ kind length count₀ operations₀ slot0 slot1 scratch count operations =
+μ-loop flash₀ kind length count₀ operations₀ flash count operations =
     length - operations
 
 loop-holds : tie.Need-loop-holds Inv-loop μ-loop

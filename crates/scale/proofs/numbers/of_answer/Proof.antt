@@ -1,4 +1,6 @@
-use Rattle.scale.specs.Boundary.{answerNumbers}
+use mathlib.Core.Path.{ap, _∙_}
+use Prim.Native.Nat.{ℕ}
+use Rattle.scale.specs.Boundary.{answerNumbers, withOutcome}
 use borrow.Author.Needs.{needs}
 use Rattle.scale.proofs.numbers.of_answer.Statement.{statement}
 use Rattle.scale.proofs.numbers.of_answer.Tie as tie
@@ -11,7 +13,9 @@ with-outcome-requires c κs = search needs
 
 returns : tie.Need-returns
 unfolding answerNumbers
-returns c = cc
+returns c =
+    let a = c .before .before .args .answer in
+    c .with-outcome .ensures ∙ ap (λ (d : ℕ). withOutcome d (a .found) (a .count) (a .outcome)) (c .before .done .ensures)
 
 pub of-answer-spec : {M : Type 1} → statement M
 of-answer-spec = tie.close (tie.spec done-requires with-outcome-requires returns)
