@@ -20,8 +20,8 @@ use Rattle.recovery.specs.Statement.{Sound}
 use Rattle.recovery.specs.Validity.{of-valid}
 use Rattle.recovery.specs.BaseMoves.{base-sound}
 use Rattle.recovery.specs.Bridge as bridge
-use Rattle.loader.specs.declared.Refusal.{Refusal}
-use Rattle.loader.specs.declared.Outcome.{Outcome}
+use Rattle.answers.specs.declared.Refusal.{Refusal}
+use Rattle.answers.specs.declared.Outcome.{Outcome}
 use Rattle.loader.specs.PowerUp.{Result, bootOf, ended, carried, answered, refused, onCourse, fullStart}
 use Rattle.loader.specs.Results.{isDamage, undamaged}
 

@@ -26,8 +26,8 @@ use Rattle.plan.specs.Decision.{inForce}
 use Rattle.plan.specs.Lengths.{one-if}
 use Rattle.recovery.specs.Statement.{never, Due, Exchange, by-test, by-permanent, by-revert, Swapped, sectorOf}
 use Rattle.recovery.specs.Demand3 as recovery
-use Rattle.loader.specs.declared.Answer.{Answer}
-use Rattle.loader.specs.declared.Outcome.{Outcome}
+use Rattle.answers.specs.declared.Answer.{Answer}
+use Rattle.answers.specs.declared.Outcome.{Outcome}
 use Rattle.loader.specs.PowerUp.{Result, judgedStart, started, dataOf, bootOf, ended, answered}
 use Rattle.loader.specs.Results.{isDamage}
 use Rattle.demands.specs.Promise.{Start}

@@ -19,10 +19,10 @@ use Rattle.image.specs.Check.{head, check, accepted}
 use Rattle.plan.specs.declared.Course.{Course}
 use Rattle.plan.specs.declared.Course.the-variants.{Damage}
 use Rattle.plan.specs.Decision.{decide, inForce}
-use Rattle.loader.specs.declared.Answer.{Answer}
-use Rattle.loader.specs.declared.Refusal.{Refusal}
-use Rattle.loader.specs.declared.Outcome.{Outcome}
-use Rattle.loader.specs.Numbers.{refusalNumber}
+use Rattle.answers.specs.declared.Answer.{Answer}
+use Rattle.answers.specs.declared.Refusal.{Refusal}
+use Rattle.answers.specs.declared.Outcome.{Outcome}
+use Rattle.answers.specs.Numbers.{refusalNumber}
 use Rattle.loader.specs.PowerUp.{Result, judgedStart, started, dataOf, bootOf, refused, onCourse, fullStart}
 use Rattle.loader.specs.Results.{isDamage, damaged}
 use Rattle.demands.specs.Promise.{Start}

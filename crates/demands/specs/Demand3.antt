@@ -18,8 +18,8 @@ use Rattle.plan.specs.Decision.{decide, listOf, okUnset, inForce}
 use Rattle.plan.specs.Lengths.{one-if}
 use Rattle.recovery.specs.Statement.{Failures, Due, Swapped}
 use Rattle.recovery.specs.Demand3 as recovery
-use Rattle.loader.specs.declared.Answer.{Answer}
-use Rattle.loader.specs.declared.Refusal.{Refusal}
+use Rattle.answers.specs.declared.Answer.{Answer}
+use Rattle.answers.specs.declared.Refusal.{Refusal}
 use Rattle.loader.specs.PowerUp.{Result, carried, answered, refused, onCourse, fullStart}
 use Rattle.demands.specs.Promise.{Start}
 

@@ -4,11 +4,12 @@ use mathlib.Core.Bool.{Bool}
 use Prim.Native.Nat.{ℕ}
 use Rattle.flash.specs.declared.Geometry.{Geometry}
 use Rattle.flash.specs.Build.{Flash}
-use Rattle.loader.specs.declared.Answer.{Answer}
-use Rattle.loader.specs.declared.Marked.{Marked}
+use Rattle.answers.specs.declared.Answer.{Answer}
+use Rattle.answers.specs.declared.Marked.{Marked}
 use Rattle.loader.specs.PowerUp.{Result, fullStart}
-use Rattle.loader.specs.Marking.{MarkResult}
-use Rattle.loader.specs.Results.{result, markResult}
+use Rattle.marking.specs.Marking.{MarkResult}
+use Rattle.loader.specs.Results.{result}
+use Rattle.marking.specs.MarkResults.{markResult}
 
 -- the function was called with the areas f, and left the answer a and the areas f' (its `ensures`, word for word)
 pub record Start (checked : Bool) (g : Geometry) (b : ℕ) (f : Flash) (a : Answer) (f' : Flash) : Type 0 where

@@ -2,8 +2,8 @@
 use crate::flashes::Flash;
 use crate::flashes::SCRATCH;
 use crate::flashes::SLOT1;
-use scale::numbers::MarkNumbers;
-use scale::numbers::Numbers;
+use answers::numbers::MarkNumbers;
+use answers::numbers::Numbers;
 
 type Area = [u8; 1024];
 

@@ -1,8 +1,8 @@
 // A line for each edge: its name, what the loader answers, and whether the flash is as before.
 use crate::flashes::Flash;
 use crate::lent;
-use scale::numbers::MarkNumbers;
-use scale::numbers::Numbers;
+use answers::numbers::MarkNumbers;
+use answers::numbers::Numbers;
 
 fn copied(flash: &Flash) -> Flash {
     let mut copy = [0u8; 3072];

@@ -1,6 +1,6 @@
 // A start's answer as the words of document 01's line: what was done, c as found, the count, then how it ended and its number.
+use answers::numbers::Numbers;
 use libc::STDOUT_FILENO;
-use scale::numbers::Numbers;
 
 pub fn write(text: &[u8]) {
     io::write_all(STDOUT_FILENO, text);

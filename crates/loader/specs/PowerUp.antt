@@ -16,9 +16,9 @@ use Rattle.plan.specs.declared.Course.{Course}
 use Rattle.plan.specs.declared.Course.the-variants.{Damage, Settle, Resume, Test, Permanent, Revert, Clear, Nothing}
 use Rattle.plan.specs.declared.Done.{Done}
 use Rattle.plan.specs.Decision.{decide, listOf, okUnset, doneOf, foundOf}
-use Rattle.loader.specs.declared.Refusal.{Refusal}
-use Rattle.loader.specs.declared.Outcome.{Outcome}
-use Rattle.loader.specs.declared.Answer.{Answer}
+use Rattle.answers.specs.declared.Refusal.{Refusal}
+use Rattle.answers.specs.declared.Outcome.{Outcome}
+use Rattle.answers.specs.declared.Answer.{Answer}
 
 -- what a power-up comes to: its answer, and what the areas then hold
 pub record Result : Type 0 where

@@ -13,19 +13,13 @@ use Rattle.plan.specs.declared.Done.{Done}
 use Rattle.plan.specs.Asked.{flashOf}
 use Rattle.plan.specs.Decision.{doneOf, foundOf}
 use Rattle.carry.specs.Areas.{state}
-use Rattle.loader.specs.declared.Refusal.{Refusal}
-use Rattle.loader.specs.declared.Outcome.{Outcome}
-use Rattle.loader.specs.declared.Ending.{Ending}
-use Rattle.loader.specs.declared.Answer.{Answer}
-use Rattle.loader.specs.declared.Marked.{Marked}
+use Rattle.answers.specs.declared.Refusal.{Refusal}
+use Rattle.answers.specs.declared.Outcome.{Outcome}
+use Rattle.answers.specs.declared.Answer.{Answer}
 use Rattle.loader.specs.PowerUp.{Result, bootOf, ended, carried, answered, refused, onCourse}
-use Rattle.loader.specs.Marking.{MarkResult, refusedMark}
 
 abbrev pub result : Answer → Flash → Result
 result a f = record { answer = a; flash = f }
-
-abbrev pub markResult : Marked → Flash → MarkResult
-markResult a f = record { answer = a; flash = f }
 
 -- ---- laws for the code
 
@@ -85,9 +79,3 @@ unfolding refused
 refusing a r f e =
     let same : result a f ≡ result (record { done = a .done; found = a .found; count = a .count; outcome = a .outcome }) f = refl in
     same ∙ rw (e .0, e .1 .0, e .1 .1 .0, e .1 .1 .1) refl
-
-pub refusing-mark : (a : Marked) (r : Refusal) (f : Flash) → (a .ending ≡ Ending.Refused r) × (a .count ≡ 0) → markResult a f ≡ refusedMark r f
-unfolding refusedMark
-refusing-mark a r f e =
-    let same : markResult a f ≡ markResult (record { ending = a .ending; count = a .count }) f = refl in
-    same ∙ rw (e .0, e .1) refl

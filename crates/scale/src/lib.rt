@@ -1,16 +1,16 @@
 // The C boundary: include/scale.h has the C side. Each function passes its arguments on, and answers in document 01's numbers.
 ghost use mathlib.Core.Path.{_≡_};
 ghost use Rattle.image.specs.Check.{causeOf, check};
-ghost use Rattle.loader.specs.Marking.{marking, confirming};
+ghost use Rattle.marking.specs.Marking.{marking, confirming};
 ghost use Rattle.loader.specs.PowerUp.{fullStart, powerUp};
 ghost use Rattle.plan.specs.Asked.{flashOf};
-ghost use Rattle.scale.specs.Boundary.{geometryOf, answerNumbers, markedNumbers};
+ghost use Rattle.answers.specs.Numbers.{answerNumbers, markedNumbers};
+ghost use Rattle.scale.specs.Boundary.{geometryOf};
 ghost use Rattle.sha256.specs.Fips.{sha256};
+use answers::numbers;
+use answers::numbers::MarkNumbers;
+use answers::numbers::Numbers;
 use flash::Geometry;
-use numbers::MarkNumbers;
-use numbers::Numbers;
-
-pub mod numbers;
 
 // SHA-256 of the message, into the digest.
 #[no_mangle]
@@ -92,7 +92,7 @@ pub extern "C" fn scale_mark(
         sector,
         sectors,
     };
-    numbers::of_marked(loader::mark(g, slot0, slot1, scratch, permanent))
+    numbers::of_marked(marking::mark(g, slot0, slot1, scratch, permanent))
 }
 
 // Confirms slot 0.
@@ -113,5 +113,5 @@ pub extern "C" fn scale_confirm(
         sector,
         sectors,
     };
-    numbers::of_marked(loader::confirm(g, slot0, slot1, scratch))
+    numbers::of_marked(marking::confirm(g, slot0, slot1, scratch))
 }

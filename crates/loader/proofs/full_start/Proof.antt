@@ -10,7 +10,7 @@ use Rattle.flash.specs.Build.{fits, valid}
 use Rattle.flash.specs.Base.{build}
 use Rattle.flash.specs.Taken.{small-fits}
 use Rattle.plan.specs.Asked.{flashOf}
-use Rattle.loader.specs.declared.Refusal.{Refusal}
+use Rattle.answers.specs.declared.Refusal.{Refusal}
 use borrow.Author.Needs.{needs}
 use Rattle.loader.proofs.full_start.Statement.{statement}
 use Rattle.loader.proofs.full_start.Tie as tie

@@ -1,6 +1,6 @@
 use mathlib.Core.Path.{ap, _∙_}
-use Rattle.loader.specs.Marking.{MarkResult}
-use Rattle.scale.specs.Boundary.{markedNumbers}
+use Rattle.marking.specs.Marking.{MarkResult}
+use Rattle.answers.specs.Numbers.{markedNumbers}
 use borrow.Author.Needs.{needs}
 use Rattle.scale.proofs.scale_confirm.Statement.{statement}
 use Rattle.scale.proofs.scale_confirm.Tie as tie

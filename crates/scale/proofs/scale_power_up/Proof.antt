@@ -1,6 +1,6 @@
 use mathlib.Core.Path.{ap, _∙_}
 use Rattle.loader.specs.PowerUp.{Result}
-use Rattle.scale.specs.Boundary.{answerNumbers}
+use Rattle.answers.specs.Numbers.{answerNumbers}
 use borrow.Author.Needs.{needs}
 use Rattle.scale.proofs.scale_power_up.Statement.{statement}
 use Rattle.scale.proofs.scale_power_up.Tie as tie

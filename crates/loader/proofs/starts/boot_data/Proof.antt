@@ -4,7 +4,7 @@ use Prim.Native.Nat.{ℕ}
 use Rattle.spans.specs.Choice.{pick}
 use Rattle.image.specs.declared.Header.{Header}
 use Rattle.image.specs.Check.{check}
-use Rattle.loader.specs.declared.Outcome.the-variants.{Boot}
+use Rattle.answers.specs.declared.Outcome.the-variants.{Boot}
 use Rattle.loader.specs.PowerUp.{judgedStart}
 use Rattle.loader.specs.PowerUp.{started}
 use borrow.Author.Needs.{needs}

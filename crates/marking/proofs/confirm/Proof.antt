@@ -1,0 +1,87 @@
+use Rattle.marking.specs.Marking.{refusedMark, unlessUnderWay, unlessRefused, confirmIfNeeded, confirming}
+use Rattle.marking.specs.MarkResults.{refusing-mark}
+use mathlib.Core.Path.{_≡_, sym, ap, _∙_}
+use mathlib.Core.Bool.{Bool, true, false}
+use lib.ListN.{length}
+use Rattle.spans.specs.Choice.{pick}
+use Rattle.flash.specs.Build.{fits, valid}
+use Rattle.flash.specs.Base.{build}
+use Rattle.flash.specs.Taken.{small-fits}
+use Rattle.plan.specs.Asked.{flashOf, askedBy}
+use Rattle.answers.specs.declared.Refusal.{Refusal}
+use borrow.Author.Needs.{needs}
+use Rattle.marking.proofs.confirm.Statement.{statement}
+use Rattle.marking.proofs.confirm.Tie as tie
+
+taken-requires : tie.Need-taken-requires
+taken-requires c κs = search needs
+
+confirm-taken-requires : tie.Need-confirm-taken-requires
+confirm-taken-requires c κs =
+    small-fits (c .before .before .before .before .before .before .args .g) (length
+    (c .before .before .before .before .before .before .args .slot0 .now)) (length
+    (c .before .before .before .before .before .before .args .slot1 .now)) (length
+    (c .before .before .before .before .before .before .args .scratch .now)) (sym (c .before .before .taken .ensures)
+    ∙ c .before .if1 .taken)
+
+refuse-requires : tie.Need-refuse-requires
+refuse-requires c κs = search needs
+
+same-length : tie.Need-same-length
+same-length c = search needs
+
+returns : tie.Need-returns
+unfolding confirming unlessRefused valid
+returns c =
+    let fit : fits (build (c .before .before .before .before .before .before .before .before .before .args .g)) (length
+    (c .before .before .before .before .before .before .before .before .before .args .slot0 .now)) (length
+    (c .before .before .before .before .before .before .before .before .before .args .slot1 .now)) (length
+    (c .before .before .before .before .before .before .before .before .before .args .scratch .now)) ≡ true = sym
+    (c .before .before .before .before .before .taken .ensures) ∙ c .before .before .before .before .if1 .taken in
+    c .before .before .confirm-taken .ensures ∙ ap (λ (b : Bool). pick b (unlessUnderWay (askedBy
+    (c .before .before .before .before .before .before .before .before .before .args .g) (flashOf
+    (c .before .before .before .before .before .before .before .before .before .args .slot0 .now)
+    (c .before .before .before .before .before .before .before .before .before .args .slot1 .now)
+    (c .before .before .before .before .before .before .before .before .before .args .scratch .now))) (flashOf
+    (c .before .before .before .before .before .before .before .before .before .args .slot0 .now)
+    (c .before .before .before .before .before .before .before .before .before .args .slot1 .now)
+    (c .before .before .before .before .before .before .before .before .before .args .scratch .now)) (confirmIfNeeded
+    (c .before .before .before .before .before .before .before .before .before .args .g) (flashOf
+    (c .before .before .before .before .before .before .before .before .before .args .slot0 .now)
+    (c .before .before .before .before .before .before .before .before .before .args .slot1 .now)
+    (c .before .before .before .before .before .before .before .before .before .args .scratch .now)))) (refusedMark Refusal.Geometry
+    (flashOf (c .before .before .before .before .before .before .before .before .before .args .slot0 .now)
+    (c .before .before .before .before .before .before .before .before .before .args .slot1 .now)
+    (c .before .before .before .before .before .before .before .before .before .args .scratch .now)))) (sym fit)
+
+returns-2 : tie.Need-returns-2
+unfolding confirming unlessRefused valid
+returns-2 c =
+    let fit : fits (build (c .before .before .before .before .before .before .args .g)) (length
+    (c .before .before .before .before .before .before .args .slot0 .now)) (length
+    (c .before .before .before .before .before .before .args .slot1 .now)) (length
+    (c .before .before .before .before .before .before .args .scratch .now)) ≡ false = sym (c .before .before .taken .ensures)
+    ∙ c .before .if1 .left in
+    refusing-mark (c .refuse .result) Refusal.Geometry (flashOf
+    (c .before .before .before .before .before .before .args .slot0 .now)
+    (c .before .before .before .before .before .before .args .slot1 .now)
+    (c .before .before .before .before .before .before .args .scratch .now)) (c .refuse .ensures) ∙ ap (λ (b : Bool). pick b
+    (unlessUnderWay (askedBy (c .before .before .before .before .before .before .args .g) (flashOf
+    (c .before .before .before .before .before .before .args .slot0 .now)
+    (c .before .before .before .before .before .before .args .slot1 .now)
+    (c .before .before .before .before .before .before .args .scratch .now))) (flashOf
+    (c .before .before .before .before .before .before .args .slot0 .now)
+    (c .before .before .before .before .before .before .args .slot1 .now)
+    (c .before .before .before .before .before .before .args .scratch .now)) (confirmIfNeeded
+    (c .before .before .before .before .before .before .args .g) (flashOf
+    (c .before .before .before .before .before .before .args .slot0 .now)
+    (c .before .before .before .before .before .before .args .slot1 .now)
+    (c .before .before .before .before .before .before .args .scratch .now)))) (refusedMark Refusal.Geometry (flashOf
+    (c .before .before .before .before .before .before .args .slot0 .now)
+    (c .before .before .before .before .before .before .args .slot1 .now)
+    (c .before .before .before .before .before .before .args .scratch .now)))) (sym fit)
+
+pub confirm-spec : {M : Type 1} → statement M
+confirm-spec =
+    tie.close
+    (tie.spec taken-requires confirm-taken-requires refuse-requires same-length returns returns-2)

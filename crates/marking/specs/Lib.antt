@@ -1,0 +1,4 @@
+pub mod Marking
+pub mod MarkResults
+pub mod Standing
+pub mod MarkLaws
