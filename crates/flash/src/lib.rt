@@ -238,8 +238,31 @@ fn settled(left: u64, units: usize, reached: usize, written: usize) -> Run
     }
 }
 
+// Of the units of dst from to on, as many as are erased up to the first that is not are given the bytes of src from from on: one
+// measure of the erased run and one copy, which comes to the same as unit after unit. It passes numbers alone, and no Run: a Run that
+// goes through memory would be read back while the bytes of the copy still wait to be stored.
+fn write_erased(
+    g: Geometry,
+    src: &[u8],
+    from: Offset,
+    dst: &mut [u8],
+    to: Unit,
+    reached: usize,
+) -> usize
+    requires { ⌜ Small g ⌝ }
+    requires { ⌜ to .0 + reached ≤ 8388608 ⌝ }
+    ensures { λ r. ⌜ (r ≡ blankRun g to reached (now (dst .entry))) × (r ≤ reached) ⌝ }
+    ensures { λ r. ⌜ now (dst .exit) ≡ put (now (dst .entry)) (placeOf g to .0) (part (now (src .entry)) (from .0) (r * g .unit)) ⌝ }
+{
+    let written = blank_units(g, dst, to, reached);
+    let at = place_of(g, to);
+    let bytes = place_of(g, Unit(written));
+    spans::copy(src, from.0, dst, at.0, bytes.0);
+    written
+}
+
 // The units of src from from on go to the units of dst from to on, in rising order, as far as the allowance reaches and the units are
-// erased: one measure of the erased run and one copy, which comes to the same as unit after unit.
+// erased.
 fn copy_units(
     g: Geometry,
     src: &[u8],
@@ -254,10 +277,7 @@ fn copy_units(
     ensures { λ r. ⌜ local (now (dst .exit)) r ≡ writeAllIn g to units (part (now (src .entry)) (from .0) (units * g .unit)) (local (now (dst .entry)) (going left)) ⌝ }
 {
     let reached = reach(left, units);
-    let written = blank_units(g, dst, to, reached);
-    let at = place_of(g, to);
-    let bytes = place_of(g, Unit(written));
-    spans::copy(src, from.0, dst, at.0, bytes.0);
+    let written = write_erased(g, src, from, dst, to, reached);
     settled(left, units, reached, written)
 }
 

@@ -1,5 +1,5 @@
 ghost use mathlib.Core.Path.{_≡_};
-ghost use Prim.Native.Nat.{ℕ, _+_, _-_, _≤_, min};
+ghost use Prim.Native.Nat.{ℕ, _+_, _*_, _-_, _≤_, min};
 ghost use lib.ListN.{length, getD};
 ghost use Rattle.spans.specs.Bytes.{put, blank, part, same};
 
@@ -78,14 +78,34 @@ fn blank_within(area: &[u8], at: usize, size: usize) -> bool
     all == 255
 }
 
+// Folds of one fixed length: the compiler unrolls them, and the first block that is not blank ends the search.
+fn blank_blocks(area: &[u8], at: usize, blocks: usize) -> bool
+    requires { ⌜ blocks * 512 ≤ length (now area) - at ⌝ }
+    ensures { λ r. ⌜ r ≡ same (part (now (area .entry)) at (blocks * 512)) (blank (blocks * 512)) ⌝ }
+{
+    let mut k = 0;
+    while k < blocks {
+        if blank_within(area, at + k * 512, 512) {
+            k += 1;
+        } else {
+            return false;
+        }
+    }
+    true
+}
+
 // Whether the size bytes from at on are all there and all 0xff.
 pub fn all_blank(area: &[u8], at: usize, size: usize) -> bool
     ensures { λ r. ⌜ r ≡ same (part (now (area .entry)) at size) (blank size) ⌝ }
 {
     if room(area.len(), at) < size {
-        false
+        return false;
+    }
+    let blocks = size / 512;
+    if blank_blocks(area, at, blocks) {
+        blank_within(area, at + blocks * 512, size - blocks * 512)
     } else {
-        blank_within(area, at, size)
+        false
     }
 }
 

@@ -25,28 +25,30 @@ count-blank-requires c κs = search needs
 
 returns : tie.Need-returns
 returns c =
-    let full : same (part (c .before .before .before .before .before .args .area .now) (placeOf
-    (c .before .before .before .before .before .args .g) (c .before .before .before .before .before .args .u) .0)
-    (c .before .before .before .before .before .args .n * c .before .before .before .before .before .args .g .unit)) (blank
-    (c .before .before .before .before .before .args .n * c .before .before .before .before .before .args .g .unit)) ≡ true =
-    sym (ap₂ (λ (o p : Offset). same (part (c .before .before .before .before .before .args .area .now) (o .0) (p .0)) (blank
+    let given = c .before .before .before .before .before .args in
+    let full : same (part (given .area .now) (placeOf
+    (given .g) (given .u) .0)
+    (given .n * given .g .unit)) (blank
+    (given .n * given .g .unit)) ≡ true =
+    sym (ap₂ (λ (o p : Offset). same (part (given .area .now) (o .0) (p .0)) (blank
     (p .0))) (c .before .before .before .place-of .ensures) (c .before .before .place-of2 .ensures))
     ∙ sym (c .before .all-blank .ensures) ∙ c .if1 .taken in
-    let all = same-eq (part (c .before .before .before .before .before .args .area .now) (placeOf
-    (c .before .before .before .before .before .args .g) (c .before .before .before .before .before .args .u) .0)
-    (c .before .before .before .before .before .args .n * c .before .before .before .before .before .args .g .unit)) (blank
-    (c .before .before .before .before .before .args .n * c .before .before .before .before .before .args .g .unit)) full in (
-      sym (blank-run-all (c .before .before .before .before .before .args .g) (c .before .before .before .before .before .args .n)
-          (c .before .before .before .before .before .args .u)
-          (c .before .before .before .before .before .args .area .now) all),
+    let all = same-eq (part (given .area .now) (placeOf
+    (given .g) (given .u) .0)
+    (given .n * given .g .unit)) (blank
+    (given .n * given .g .unit)) full in (
+      sym (blank-run-all (given .g) (given .n)
+          (given .u)
+          (given .area .now) all),
       omega arith,
     )
 
 returns-2 : tie.Need-returns-2
 returns-2 c =
-    let l = blank-run-le (c .before .before .before .before .before .before .args .g)
-    (c .before .before .before .before .before .before .args .n) (c .before .before .before .before .before .before .args .u)
-    (c .before .before .before .before .before .before .args .area .now) in
+    let given = c .before .before .before .before .before .before .args in
+    let l = blank-run-le (given .g)
+    (given .n) (given .u)
+    (given .area .now) in
     (c .count-blank .ensures, omega (arith, l, c .count-blank .ensures))
 
 pub blank-units-spec : {M : Type 1} → statement M

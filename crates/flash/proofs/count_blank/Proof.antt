@@ -38,35 +38,38 @@ loop-less c = search needs
 
 loop-again : tie.Need-loop-again Inv-loop μ-loop
 loop-again c =
-    let e : erased (c .before .before .before .before .before .before .args .g) (unitNo
-    (c .before .before .before .before .before .before .args .u .0 + c .before .before .before .before .loop .k))
-    (c .before .before .before .before .before .before .args .area .now) ≡ true = sym (c .before .is-erased .ensures)
+    let given = c .before .before .before .before .before .before .args in
+    let e : erased (given .g) (unitNo
+    (given .u .0 + c .before .before .before .before .loop .k))
+    (given .area .now) ≡ true = sym (c .before .is-erased .ensures)
     ∙ c .if1 .taken in (
       omega arith,
       c .before .before .before .before .loop .inv .1 ∙ blank-run-next
-          (c .before .before .before .before .before .before .args .g) (c .before .before .before .before .before .before .args .u)
-          (c .before .before .before .before .before .before .args .n) (c .before .before .before .before .loop .k)
-          (c .before .before .before .before .before .before .args .area .now) (omega arith) e,
+          (given .g) (given .u)
+          (given .n) (c .before .before .before .before .loop .k)
+          (given .area .now) (omega arith) e,
     )
 
 returns : tie.Need-returns Inv-loop μ-loop
 returns c =
-    let e : erased (c .before .before .before .before .before .before .args .g) (unitNo
-    (c .before .before .before .before .before .before .args .u .0 + c .before .before .before .before .loop .k))
-    (c .before .before .before .before .before .before .args .area .now) ≡ false = sym (c .before .is-erased .ensures)
+    let given = c .before .before .before .before .before .before .args in
+    let e : erased (given .g) (unitNo
+    (given .u .0 + c .before .before .before .before .loop .k))
+    (given .area .now) ≡ false = sym (c .before .is-erased .ensures)
     ∙ c .if1 .left in
     sym (c .before .before .before .before .loop .inv .1 ∙ blank-run-stop
-    (c .before .before .before .before .before .before .args .g) (c .before .before .before .before .before .before .args .u)
-    (c .before .before .before .before .before .before .args .n) (c .before .before .before .before .loop .k)
-    (c .before .before .before .before .before .before .args .area .now) (omega arith) e)
+    (given .g) (given .u)
+    (given .n) (c .before .before .before .before .loop .k)
+    (given .area .now) (omega arith) e)
 
 returns-2 : tie.Need-returns-2 Inv-loop μ-loop
 unfolding blankRun
 returns-2 c =
-    let e : c .before .loop .k ≡ c .before .before .before .args .n = omega arith in
-    let z : c .before .before .before .args .n - c .before .loop .k ≡ 0 = omega arith in
-    sym (c .before .loop .inv .1 ∙ ap (λ (m : ℕ). c .before .loop .k + blankRun (c .before .before .before .args .g) (unitNo
-    (c .before .before .before .args .u .0 + c .before .loop .k)) m (c .before .before .before .args .area .now)) z ∙ omega arith)
+    let given = c .before .before .before .args in
+    let e : c .before .loop .k ≡ given .n = omega arith in
+    let z : given .n - c .before .loop .k ≡ 0 = omega arith in
+    sym (c .before .loop .inv .1 ∙ ap (λ (m : ℕ). c .before .loop .k + blankRun (given .g) (unitNo
+    (given .u .0 + c .before .loop .k)) m (given .area .now)) z ∙ omega arith)
 
 pub count-blank-spec : {M : Type 1} → statement M
 count-blank-spec =

@@ -9,8 +9,9 @@ enum-told c = search needs
 
 returns : tie.Need-returns
 returns c =
-    sym (erase-late (c .before .before .before .before .before .args .g) (c .before .before .before .before .before .args .i)
-    (c .before .before .before .before .before .args .area .now) (c .before .before .before .before .before .args .run)
+    let given = c .before .before .before .before .before .args in
+    sym (erase-late (given .g) (given .i)
+    (given .area .now) (given .run)
     (c .before .before .enum-told .given .1) (c .if1 .taken))
 
 start-of-requires : tie.Need-start-of-requires
@@ -33,11 +34,12 @@ same-length c = search needs
 
 returns-2 : tie.Need-returns-2
 returns-2 c =
+    let given = c .before .before .before .before .before .before .before .before .before .before .before .args in
     cc (
-      erase-done (c .before .before .before .before .before .before .before .before .before .before .before .args .g)
-          (c .before .before .before .before .before .before .before .before .before .before .before .args .i)
-          (c .before .before .before .before .before .before .before .before .before .before .before .args .area .now)
-          (c .before .before .before .before .before .before .before .before .before .before .before .args .run)
+      erase-done (given .g)
+          (given .i)
+          (given .area .now)
+          (given .run)
           (c .before .before .before .before .before .before .before .before .enum-told .given .1)
           (c .before .before .before .before .before .before .if1 .left),
       c .before .before .before .before .before .start-of .ensures,
@@ -46,13 +48,15 @@ returns-2 c =
 
 returns-3 : tie.Need-returns-3
 returns-3 c =
-    sym (erase-stopped (c .before .before .before .args .g) (c .before .before .before .args .i)
-    (c .before .before .before .args .area .now) (c .before .before .before .args .run) (c .enum-told2 .given .1))
+    let given = c .before .before .before .args in
+    sym (erase-stopped (given .g) (given .i)
+    (given .area .now) (given .run) (c .enum-told2 .given .1))
 
 returns-4 : tie.Need-returns-4
 returns-4 c =
-    sym (erase-unerased (c .before .before .before .args .g) (c .before .before .before .args .i)
-    (c .before .before .before .args .area .now) (c .before .before .before .args .run) (c .enum-told3 .given .1))
+    let given = c .before .before .before .args in
+    sym (erase-unerased (given .g) (given .i)
+    (given .area .now) (given .run) (c .enum-told3 .given .1))
 
 pub erase-spec : {M : Type 1} → statement M
 erase-spec =

@@ -25,12 +25,13 @@ returns c =
 returns-2 : tie.Need-returns-2
 unfolding lengthsAsked every
 returns-2 c =
+    let given = c .before .before .before .args in
     rw (
-      eq-eqb (c .before .before .before .args .l0)
-          (c .before .before .before .args .g .sectors * c .before .before .before .args .g .sector) (c .before .if1 .left),
+      eq-eqb (given .l0)
+          (given .g .sectors * given .g .sector) (c .before .if1 .left),
       ne-eqb
-          (c .before .before .before .args .l1)
-          (c .before .before .before .args .g .sectors * c .before .before .before .args .g .sector) (c .if2 .taken),
+          (given .l1)
+          (given .g .sectors * given .g .sector) (c .if2 .taken),
     )
 
 mul-result : tie.Need-mul-result
@@ -39,12 +40,13 @@ mul-result c = search needs
 returns-3 : tie.Need-returns-3
 unfolding lengthsAsked every
 returns-3 c =
+    let given = c .before .before .before .before .args in
     rw (
-      eq-eqb (c .before .before .before .before .args .l0)
-          (c .before .before .before .before .args .g .sectors * c .before .before .before .before .args .g .sector)
+      eq-eqb (given .l0)
+          (given .g .sectors * given .g .sector)
           (c .before .before .if1 .left),
-      eq-eqb (c .before .before .before .before .args .l1)
-          (c .before .before .before .before .args .g .sectors * c .before .before .before .before .args .g .sector)
+      eq-eqb (given .l1)
+          (given .g .sectors * given .g .sector)
           (c .before .if2 .left),
       and-true,
     )

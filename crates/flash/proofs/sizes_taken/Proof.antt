@@ -22,22 +22,26 @@ add-if2 c = search needs
 returns-2 : tie.Need-returns-2
 unfolding sizesAsked every
 returns-2 c =
-    rw (eq-eqb (c .before .before .before .before .before .args .g .sector % c .before .before .before .before .before .args .g .unit) 0 (c .before .before .before .if1 .left), lt-leb (384 * c .before .before .before .before .before .args .g .unit + 32) (c .before .before .before .before .before .args .g .sector) (c .if2 .taken))
+    let given = c .before .before .before .before .before .args in
+    rw (eq-eqb (given .g .sector % given .g .unit) 0 (c .before .before .before .if1 .left), lt-leb (384 * given .g .unit + 32) (given .g .sector) (c .if2 .taken))
 
 returns-3 : tie.Need-returns-3
 unfolding sizesAsked every
 returns-3 c =
-    rw (eq-eqb (c .before .before .before .before .before .before .before .args .g .sector % c .before .before .before .before .before .before .before .args .g .unit) 0 (c .before .before .before .before .before .if1 .left), le-leb (384 * c .before .before .before .before .before .before .before .args .g .unit + 32) (c .before .before .before .before .before .before .before .args .g .sector) (c .before .before .if2 .left), lt-leb (c .before .before .before .before .before .before .before .args .g .sector) 65536 (c .if3 .taken))
+    let given = c .before .before .before .before .before .before .before .args in
+    rw (eq-eqb (given .g .sector % given .g .unit) 0 (c .before .before .before .before .before .if1 .left), le-leb (384 * given .g .unit + 32) (given .g .sector) (c .before .before .if2 .left), lt-leb (given .g .sector) 65536 (c .if3 .taken))
 
 returns-4 : tie.Need-returns-4
 unfolding sizesAsked every
 returns-4 c =
-    rw (eq-eqb (c .before .before .before .before .before .before .before .before .before .args .g .sector % c .before .before .before .before .before .before .before .before .before .args .g .unit) 0 (c .before .before .before .before .before .before .before .if1 .left), le-leb (384 * c .before .before .before .before .before .before .before .before .before .args .g .unit + 32) (c .before .before .before .before .before .before .before .before .before .args .g .sector) (c .before .before .before .before .if2 .left), le-leb (c .before .before .before .before .before .before .before .before .before .args .g .sector) 65536 (c .before .before .if3 .left), lt-leb 2 (c .before .before .before .before .before .before .before .before .before .args .g .sectors) (c .if4 .taken))
+    let given = c .before .before .before .before .before .before .before .before .before .args in
+    rw (eq-eqb (given .g .sector % given .g .unit) 0 (c .before .before .before .before .before .before .before .if1 .left), le-leb (384 * given .g .unit + 32) (given .g .sector) (c .before .before .before .before .if2 .left), le-leb (given .g .sector) 65536 (c .before .before .if3 .left), lt-leb 2 (given .g .sectors) (c .if4 .taken))
 
 returns-5 : tie.Need-returns-5
 unfolding sizesAsked every
 returns-5 c =
-    rw (eq-eqb (c .before .before .before .before .before .before .before .before .before .before .args .g .sector % c .before .before .before .before .before .before .before .before .before .before .args .g .unit) 0 (c .before .before .before .before .before .before .before .before .if1 .left), le-leb (384 * c .before .before .before .before .before .before .before .before .before .before .args .g .unit + 32) (c .before .before .before .before .before .before .before .before .before .before .args .g .sector) (c .before .before .before .before .before .if2 .left), le-leb (c .before .before .before .before .before .before .before .before .before .before .args .g .sector) 65536 (c .before .before .before .if3 .left), le-leb 2 (c .before .before .before .before .before .before .before .before .before .before .args .g .sectors) (c .before .if4 .left), and-true)
+    let given = c .before .before .before .before .before .before .before .before .before .before .args in
+    rw (eq-eqb (given .g .sector % given .g .unit) 0 (c .before .before .before .before .before .before .before .before .if1 .left), le-leb (384 * given .g .unit + 32) (given .g .sector) (c .before .before .before .before .before .if2 .left), le-leb (given .g .sector) 65536 (c .before .before .before .if3 .left), le-leb 2 (given .g .sectors) (c .before .if4 .left), and-true)
 
 pub sizes-taken-spec : {M : Type 1} → statement M
 sizes-taken-spec =

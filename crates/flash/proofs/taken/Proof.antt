@@ -19,22 +19,24 @@ lengths-taken-requires c κs =
 
 returns : tie.Need-returns
 returns c =
-    let u : unitAsked (c .before .before .before .before .before .args .g .unit) ≡ true = sym
+    let given = c .before .before .before .before .before .args in
+    let u : unitAsked (given .g .unit) ≡ true = sym
     (c .before .before .before .before .unit-taken .ensures) ∙ c .before .before .before .if1 .taken in
-    let s : every (sizesAsked (c .before .before .before .before .before .args .g)) ≡ true = sym
+    let s : every (sizesAsked (given .g)) ≡ true = sym
     (c .before .before .sizes-taken .ensures) ∙ c .before .if2 .taken in
-    c .lengths-taken .ensures ∙ sym (in-parts (c .before .before .before .before .before .args .g)
-    (c .before .before .before .before .before .args .l0) (c .before .before .before .before .before .args .l1)
-    (c .before .before .before .before .before .args .l2) ∙ rw (u, s))
+    c .lengths-taken .ensures ∙ sym (in-parts (given .g)
+    (given .l0) (given .l1)
+    (given .l2) ∙ rw (u, s))
 
 returns-2 : tie.Need-returns-2
 returns-2 c =
-    let u : unitAsked (c .before .before .before .before .args .g .unit) ≡ true = sym
+    let given = c .before .before .before .before .args in
+    let u : unitAsked (given .g .unit) ≡ true = sym
     (c .before .before .before .unit-taken .ensures) ∙ c .before .before .if1 .taken in
-    let s : every (sizesAsked (c .before .before .before .before .args .g)) ≡ false = sym (c .before .sizes-taken .ensures)
+    let s : every (sizesAsked (given .g)) ≡ false = sym (c .before .sizes-taken .ensures)
     ∙ c .if2 .left in
-    sym (in-parts (c .before .before .before .before .args .g) (c .before .before .before .before .args .l0)
-    (c .before .before .before .before .args .l1) (c .before .before .before .before .args .l2) ∙ rw (u, s))
+    sym (in-parts (given .g) (given .l0)
+    (given .l1) (given .l2) ∙ rw (u, s))
 
 returns-3 : tie.Need-returns-3
 returns-3 c =

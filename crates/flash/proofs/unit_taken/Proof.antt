@@ -14,21 +14,23 @@ returns-2 c = rw (ne-eqb (c .before .before .args .w) 1 (c .before .if1 .left), 
 returns-3 : tie.Need-returns-3
 unfolding unitAsked
 returns-3 c =
+    let given = c .before .before .before .args in
     rw (
-      ne-eqb (c .before .before .before .args .w) 1 (c .before .before .if1 .left),
-      ne-eqb (c .before .before .before .args .w) 2
+      ne-eqb (given .w) 1 (c .before .before .if1 .left),
+      ne-eqb (given .w) 2
           (c .before .if2 .left),
-      eq-eqb (c .before .before .before .args .w) 4 (c .if3 .taken),
+      eq-eqb (given .w) 4 (c .if3 .taken),
     )
 
 returns-4 : tie.Need-returns-4
 unfolding unitAsked
 returns-4 c =
+    let given = c .before .before .before .args in
     rw (
-      ne-eqb (c .before .before .before .args .w) 1 (c .before .before .if1 .left),
-      ne-eqb (c .before .before .before .args .w) 2
+      ne-eqb (given .w) 1 (c .before .before .if1 .left),
+      ne-eqb (given .w) 2
           (c .before .if2 .left),
-      ne-eqb (c .before .before .before .args .w) 4 (c .if3 .left),
+      ne-eqb (given .w) 4 (c .if3 .left),
     )
 
 pub unit-taken-spec : {M : Type 1} → statement M
