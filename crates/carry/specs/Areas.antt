@@ -15,8 +15,8 @@ use Rattle.flash.specs.Base.{allMoves, base, build}
 use Rattle.flash.specs.BaseLaws.{length-moves}
 use Rattle.flash.specs.Operations.{Op, State, Local, local, back, eraseIn, step, steps}
 use Rattle.flash.specs.OperationLaws.{steps-append}
-use Rattle.trailer.specs.Trailer.{doneAt}
-use Rattle.plan.specs.Lists.{clear, mark, okOps, progress, magicOps, begin, settle, moveOps, dataOps, erases, clearOut}
+use Rattle.trailer.specs.Trailer.{copyDoneAt}
+use Rattle.plan.specs.Lists.{eraseTrailer, mark, okOps, progress, magicOps, linesOneTwo, linesThreeToSix, moveOps, dataOps, erases, clearOut}
 use Rattle.carry.specs.Steps.{moveIn, steps-move}
 use Rattle.carry.specs.InArea.{markIn, okIn, beginIn, lineFiveIn, erasesIn, steps-ok, steps-begin, steps-line-five, steps-erases}
 use Rattle.carry.specs.Moves.{moveOf, next-move}
@@ -30,15 +30,15 @@ module _ (g : Geometry) (p : Bool) (x0 x1 x2 : List ℕ) (r : Run) where
       → (y0 : List ℕ) (r₂ : Run) → local y0 r₂ ≡ eraseIn g (trailerSector (build g) slot0) (local x0 r₁)
       → (x0' : List ℕ) (r₃ : Run) → local x0' r₃ ≡ lineFiveIn g (trailerSector (build g) slot0) p (local y0 r₂)
       → (x2' : List ℕ) (r₄ : Run) → local x2' r₄ ≡ eraseIn g (trailerSector (build g) scratch) (local x2 r₃)
-      → state x0' x1' x2' r₄ ≡ steps (build g) (settle (build g) p) (state x0 x1 x2 r)
-  unfolding settle steps step base
+      → state x0' x1' x2' r₄ ≡ steps (build g) (linesThreeToSix (build g) p) (state x0 x1 x2 r)
+  unfolding linesThreeToSix steps step base
   settled x1' r₁ e₁ y0 r₂ e₂ x0' r₃ e₃ x2' r₄ e₄ =
       ap (back scratch (state x0' x1' x2 r₃)) e₄
-      ∙ ap (λ (l : Local). step (build g) (clear (build g) scratch) (back slot0 (state y0 x1' x2 r₂) l)) e₃
-      ∙ ap (step (build g) (clear (build g) scratch)) (sym (steps-line-five g p (state y0 x1' x2 r₂)))
-      ∙ sym (steps-append (build g) line5 (clear (build g) scratch ∷ []) (state y0 x1' x2 r₂))
-      ∙ ap (λ (l : Local). steps (build g) (line5 ++ (clear (build g) scratch ∷ [])) (back slot0 (state x0 x1' x2 r₁) l)) e₂
-      ∙ ap (λ (l : Local). steps (build g) (clear (build g) slot0 ∷ (line5 ++ (clear (build g) scratch ∷ []))) (back slot1
+      ∙ ap (λ (l : Local). step (build g) (eraseTrailer (build g) scratch) (back slot0 (state y0 x1' x2 r₂) l)) e₃
+      ∙ ap (step (build g) (eraseTrailer (build g) scratch)) (sym (steps-line-five g p (state y0 x1' x2 r₂)))
+      ∙ sym (steps-append (build g) line5 (eraseTrailer (build g) scratch ∷ []) (state y0 x1' x2 r₂))
+      ∙ ap (λ (l : Local). steps (build g) (line5 ++ (eraseTrailer (build g) scratch ∷ [])) (back slot0 (state x0 x1' x2 r₁) l)) e₂
+      ∙ ap (λ (l : Local). steps (build g) (eraseTrailer (build g) slot0 ∷ (line5 ++ (eraseTrailer (build g) scratch ∷ []))) (back slot1
       (state x0 x1 x2 r) l)) e₁
     where
       line5 : List Op
@@ -92,7 +92,7 @@ next-mark g k s lo hi =
 -- after the last mark, copy done
 pub last-mark : (g : Geometry) (k : ℕ) (s : State) → 0 < g .sectors → k ≡ 3 * g .sectors
     → steps (build g) (dataOps (build g) k (drop (k - 3) (allMoves (g .sectors - 1)))) s ≡ step (build g) (mark (build g) slot0
-    (doneAt (build g)) 1) s
+    (copyDoneAt (build g)) 1) s
 unfolding dataOps steps
 last-mark g k s p e =
     let none : drop (k - 3) (allMoves (g .sectors - 1)) ≡ [] =
@@ -108,18 +108,18 @@ module _ (g : Geometry) (u : Bool) (x0 x1 x2 : List ℕ) (r : Run) where
   unfolding clearOut steps step base
   cleared y1 r₁ e₁ x0' r₂ e₂ x1' r₃ e₃ =
       ap (back slot1 (state x0' y1 x2 r₂)) e₃
-      ∙ ap (λ (l : Local). step (build g) (clear (build g) slot1) (back slot0 (state x0 y1 x2 r₁) l)) e₂
-      ∙ ap (step (build g) (clear (build g) slot1)) (sym (steps-ok g slot0 u (state x0 y1 x2 r₁)))
-      ∙ sym (steps-append (build g) (okOps (build g) slot0 u) (clear (build g) slot1 ∷ []) (state x0 y1 x2 r₁))
+      ∙ ap (λ (l : Local). step (build g) (eraseTrailer (build g) slot1) (back slot0 (state x0 y1 x2 r₁) l)) e₂
+      ∙ ap (step (build g) (eraseTrailer (build g) slot1)) (sym (steps-ok g slot0 u (state x0 y1 x2 r₁)))
+      ∙ sym (steps-append (build g) (okOps (build g) slot0 u) (eraseTrailer (build g) slot1 ∷ []) (state x0 y1 x2 r₁))
       ∙ ap (λ (l : Local). steps (build g) rest (back slot1 (state x0 x1 x2 r) l)) e₁
       ∙ ap (steps (build g) rest) (sym (steps-erases g slot1 0 (g .sectors - 1) (state x0 x1 x2 r)))
       ∙ sym (steps-append (build g) (erases slot1 0 (g .sectors - 1)) rest (state x0 x1 x2 r))
     where
       rest : List Op
-      rest = okOps (build g) slot0 u ++ (clear (build g) slot1 ∷ [])
+      rest = okOps (build g) slot0 u ++ (eraseTrailer (build g) slot1 ∷ [])
 
 -- lines 1 and 2
 pub begun : (g : Geometry) (p : Bool) (x0 x1 x2 : List ℕ) (r : Run) (x2' : List ℕ) (r' : Run)
     → local x2' r' ≡ beginIn g (trailerSector (build g) scratch) p (local x2 r)
-    → state x0 x1 x2' r' ≡ steps (build g) (begin (build g) p) (state x0 x1 x2 r)
+    → state x0 x1 x2' r' ≡ steps (build g) (linesOneTwo (build g) p) (state x0 x1 x2 r)
 begun g p x0 x1 x2 r x2' r' e = ap (back scratch (state x0 x1 x2 r)) e ∙ sym (steps-begin g p (state x0 x1 x2 r))

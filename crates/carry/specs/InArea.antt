@@ -18,7 +18,7 @@ use Rattle.flash.specs.Base.{base, build}
 use Rattle.flash.specs.Operations.{Op, State, Local, in-area, back, eraseIn, writeIn, writeAllIn, step, steps}
 use Rattle.flash.specs.OperationLaws.{steps-append}
 use Rattle.trailer.specs.Trailer.{magicAt, okAt, markAt, magicBytes, markBytes}
-use Rattle.plan.specs.Lists.{progress, clear, magicOps, okOps, begin, erases}
+use Rattle.plan.specs.Lists.{progress, eraseTrailer, magicOps, okOps, linesOneTwo, erases}
 use Rattle.carry.specs.Steps.{back-own, back-back, in-back, steps-writes}
 
 -- a mark of value v at an offset into the trailer sector i
@@ -69,15 +69,15 @@ module _ (g : Geometry) (a : Area) where
       steps-append (build g) xs ys s ∙ ap (steps (build g) ys) (p s) ∙ q (back a s l)
       ∙ ap (λ (x : Local). back a (back a s l) (ψ x)) (in-back a s l) ∙ back-back a s l (ψ l)
 
-  steps-clear : (s : State) → steps (build g) (clear (build g) a ∷ []) s ≡ back a s (eraseIn g (trailerSector (build g) a) (in-area a s))
+  steps-clear : (s : State) → steps (build g) (eraseTrailer (build g) a ∷ []) s ≡ back a s (eraseIn g (trailerSector (build g) a) (in-area a s))
   unfolding steps step base
   steps-clear s = refl
 
 pub steps-begin : (g : Geometry) (p : Bool) (s : State)
-    → steps (build g) (begin (build g) p) s ≡ back scratch s (beginIn g (trailerSector (build g) scratch) p (in-area scratch s))
-unfolding begin beginIn
+    → steps (build g) (linesOneTwo (build g) p) s ≡ back scratch s (beginIn g (trailerSector (build g) scratch) p (in-area scratch s))
+unfolding linesOneTwo beginIn
 steps-begin g p s =
-    joined g scratch (clear (build g) scratch ∷ []) (okOps (build g) scratch p ++ magicOps (build g) scratch) (eraseIn g i)
+    joined g scratch (eraseTrailer (build g) scratch ∷ []) (okOps (build g) scratch p ++ magicOps (build g) scratch) (eraseIn g i)
     (λ l. magicIn g i (okIn g i p l)) (steps-clear g scratch)
     (joined g scratch (okOps (build g) scratch p) (magicOps (build g) scratch) (okIn g i p) (magicIn g i) (steps-ok g scratch p)
     (steps-magic g scratch)) s

@@ -7,8 +7,8 @@ ghost use Rattle.flash.specs.Build.{Area};
 ghost use Rattle.flash.specs.Base.{build, allMoves};
 ghost use Rattle.flash.specs.Small.{Small};
 ghost use Rattle.flash.specs.Operations.{local, step, steps};
-ghost use Rattle.trailer.specs.Trailer.{doneAt};
-ghost use Rattle.plan.specs.Lists.{mark, progress, settle, moveOps, dataOps, exchange, clearOut};
+ghost use Rattle.trailer.specs.Trailer.{copyDoneAt};
+ghost use Rattle.plan.specs.Lists.{mark, progress, linesThreeToSix, moveOps, dataOps, exchange, clearOut};
 ghost use Rattle.carry.specs.Steps.{moveIn};
 ghost use Rattle.carry.specs.Moves.{moveOf};
 ghost use Rattle.carry.specs.Areas.{state};
@@ -32,7 +32,7 @@ pub fn lines_three_to_six(
     run: Run,
 ) -> Run
     requires { ⌜ Small g ⌝ }
-    ensures { λ r. ⌜ state (now (slot0 .exit)) (now (slot1 .exit)) (now (scratch .exit)) r ≡ steps (build g) (settle (build g) lasting) (state (now (slot0 .entry)) (now (slot1 .entry)) (now (scratch .entry)) run) ⌝ }
+    ensures { λ r. ⌜ state (now (slot0 .exit)) (now (slot1 .exit)) (now (scratch .exit)) r ≡ steps (build g) (linesThreeToSix (build g) lasting) (state (now (slot0 .entry)) (now (slot1 .entry)) (now (scratch .entry)) run) ⌝ }
 {
     let last = g.sectors - 1;
     let three = flash::erase(g, slot1, Sector(last), run);
@@ -104,7 +104,7 @@ fn moves_from(
 ) -> Run
     requires { ⌜ Small g ⌝ }
     requires { ⌜ (3 ≤ c) × (c ≤ 3 * g .sectors) ⌝ }
-    ensures { λ r. ⌜ step (build g) (mark (build g) Area.slot0 (doneAt (build g)) 1) (state (now (slot0 .exit)) (now (slot1 .exit)) (now (scratch .exit)) r) ≡ steps (build g) (dataOps (build g) c (drop (c - 3) (allMoves (g .sectors - 1)))) (state (now (slot0 .entry)) (now (slot1 .entry)) (now (scratch .entry)) run) ⌝ }
+    ensures { λ r. ⌜ step (build g) (mark (build g) Area.slot0 (copyDoneAt (build g)) 1) (state (now (slot0 .exit)) (now (slot1 .exit)) (now (scratch .exit)) r) ≡ steps (build g) (dataOps (build g) c (drop (c - 3) (allMoves (g .sectors - 1)))) (state (now (slot0 .entry)) (now (slot1 .entry)) (now (scratch .entry)) run) ⌝ }
 {
     let mut r = run;
     let mut k = c;
@@ -143,7 +143,7 @@ pub fn from_line_three(
     run: Run,
 ) -> Run
     requires { ⌜ Small g ⌝ }
-    ensures { λ r. ⌜ state (now (slot0 .exit)) (now (slot1 .exit)) (now (scratch .exit)) r ≡ steps (build g) (settle (build g) lasting ++ dataOps (build g) 3 (allMoves (g .sectors - 1))) (state (now (slot0 .entry)) (now (slot1 .entry)) (now (scratch .entry)) run) ⌝ }
+    ensures { λ r. ⌜ state (now (slot0 .exit)) (now (slot1 .exit)) (now (scratch .exit)) r ≡ steps (build g) (linesThreeToSix (build g) lasting ++ dataOps (build g) 3 (allMoves (g .sectors - 1))) (state (now (slot0 .entry)) (now (slot1 .entry)) (now (scratch .entry)) run) ⌝ }
 {
     let trailers = lines_three_to_six(g, slot0, slot1, scratch, lasting, run);
     data_exchange(g, 3, slot0, slot1, scratch, trailers)

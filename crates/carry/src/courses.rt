@@ -38,7 +38,7 @@ pub fn carry_out(
     ensures { λ r. ⌜ state (now (slot0 .exit)) (now (slot1 .exit)) (now (scratch .exit)) r ≡ steps (build g) (listOf (build g) (okUnset (build g) (flashOf (now (slot0 .entry)) (now (slot1 .entry)) (now (scratch .entry)))) course) (state (now (slot0 .entry)) (now (slot1 .entry)) (now (scratch .entry)) run) ⌝ }
 {
     match course {
-        Course::Settle(lasting) => from_line_three(g, slot0, slot1, scratch, lasting, run),
+        Course::FromLineThree(lasting) => from_line_three(g, slot0, slot1, scratch, lasting, run),
         Course::Resume(c) => data_exchange(g, c, slot0, slot1, scratch, run),
         Course::Test => whole_exchange(g, slot0, slot1, scratch, false, run),
         Course::Permanent => whole_exchange(g, slot0, slot1, scratch, true, run),

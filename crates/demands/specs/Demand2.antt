@@ -10,13 +10,13 @@ use Rattle.spans.specs.Choice.{pick}
 use Rattle.flash.specs.declared.Geometry.{Geometry}
 use Rattle.flash.specs.Build.{Build, Flash}
 use Rattle.flash.specs.Base.{build}
-use Rattle.trailer.specs.Trailer.{okAt, doneAt, magicOf, isGood, markOf, isUnset, hasValue, written, legal}
+use Rattle.trailer.specs.Trailer.{okAt, copyDoneAt, magicOf, isGood, markOf, isUnset, hasValue, written, legal}
 use Rattle.image.specs.declared.Verdict.{Verdict}
 use Rattle.image.specs.Check.{check, isAccepted, accepted}
 use Rattle.image.specs.Image.{Image}
 use Rattle.image.specs.Theorem.{accepts-images, accepts-only-images}
 use Rattle.plan.specs.declared.Course.{Course}
-use Rattle.plan.specs.declared.Course.the-variants.{Damage, Settle, Resume, Test, Permanent, Revert, Clear, Nothing}
+use Rattle.plan.specs.declared.Course.the-variants.{Damage, FromLineThree, Resume, Test, Permanent, Revert, Clear, Nothing}
 use Rattle.plan.specs.Asked.{askedBy, asksCheck}
 use Rattle.plan.specs.Decision.{stepA, stepB, stateC, continue, asks, judged, decide}
 use Rattle.plan.specs.DecisionLaws.{testDue, permanentDue, revertDue, decide-checked}
@@ -44,7 +44,7 @@ image-accepted xs i = ap isAccepted (accepts-images xs i)
 rejected : (c : Course) → asksCheck (judged false c) ≡ false
 unfolding asksCheck judged
 rejected Damage = refl
-rejected (Settle p) = refl
+rejected (FromLineThree p) = refl
 rejected (Resume c) = refl
 rejected Test = refl
 rejected Permanent = refl
@@ -67,7 +67,7 @@ judged-cleared : (a : Bool) (c : Course) → judged a c ≡ Clear → (c ≡ Cle
 unfolding judged
 judged-cleared false c e n = refl
 judged-cleared true Damage e n = cc
-judged-cleared true (Settle p) e n = cc
+judged-cleared true (FromLineThree p) e n = cc
 judged-cleared true (Resume c) e n = cc
 judged-cleared true Test e n = cc
 judged-cleared true Permanent e n = cc
@@ -78,7 +78,7 @@ judged-cleared true Nothing e n = cc
 -- A, B and C give no clear-out of themselves
 not-clear : Course → Bool
 not-clear Damage = true
-not-clear (Settle p) = true
+not-clear (FromLineThree p) = true
 not-clear (Resume c) = true
 not-clear Test = true
 not-clear Permanent = true
@@ -112,8 +112,8 @@ module _ (g : Build) where
   asks-not-clear t0 t1 t2 =
       let ok = markOf g t2 (okAt g) in
       picked (isGood (magicOf g t2)) _ _
-      (picked (isUnset ok) (Settle false) _ refl (picked (hasValue 1 ok) (Settle true) Damage refl refl))
-      (picked (isGood (magicOf g t0) && isUnset (markOf g t0 (doneAt g))) _ _
+      (picked (isUnset ok) (FromLineThree false) _ refl (picked (hasValue 1 ok) (FromLineThree true) Damage refl refl))
+      (picked (isGood (magicOf g t0) && isUnset (markOf g t0 (copyDoneAt g))) _ _
       (continue-not-clear t0 (written g t0 0 (3 * g .sectors)) (stateC g t0 t1) (c-not-clear t0 t1)) (c-not-clear t0 t1))
 
 module _ (g : Geometry) (f : Flash) where

@@ -13,7 +13,7 @@ use Rattle.flash.specs.Base.{build}
 use Rattle.flash.specs.Operations.{start, steps}
 use Rattle.image.specs.Check.{accepted}
 use Rattle.plan.specs.declared.Course.{Course}
-use Rattle.plan.specs.declared.Course.the-variants.{Damage, Settle, Resume, Test, Permanent, Revert, Clear, Nothing}
+use Rattle.plan.specs.declared.Course.the-variants.{Damage, FromLineThree, Resume, Test, Permanent, Revert, Clear, Nothing}
 use Rattle.plan.specs.Decision.{decide, listOf, okUnset, inForce}
 use Rattle.plan.specs.Lengths.{one-if}
 use Rattle.recovery.specs.Statement.{Failures, Due, Swapped}
@@ -34,7 +34,7 @@ areas checked g b f = go (valid (build g) f) (decide accepted (build g) f)
         ≡ steps (build g) (pick v (listOf (build g) (okUnset (build g) f) c) []) (start b f) .flash
     go false c = refl
     go true Damage = refl
-    go true (Settle p) = refl
+    go true (FromLineThree p) = refl
     go true (Resume c) = refl
     go true Test = refl
     go true Permanent = refl

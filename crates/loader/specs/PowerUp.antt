@@ -13,7 +13,7 @@ use Rattle.image.specs.declared.Header.{Header}
 use Rattle.image.specs.declared.Verdict.{Verdict}
 use Rattle.image.specs.Check.{head, check, accepted}
 use Rattle.plan.specs.declared.Course.{Course}
-use Rattle.plan.specs.declared.Course.the-variants.{Damage, Settle, Resume, Test, Permanent, Revert, Clear, Nothing}
+use Rattle.plan.specs.declared.Course.the-variants.{Damage, FromLineThree, Resume, Test, Permanent, Revert, Clear, Nothing}
 use Rattle.plan.specs.declared.Done.{Done}
 use Rattle.plan.specs.Decision.{decide, listOf, okUnset, doneOf, foundOf}
 use Rattle.answers.specs.declared.Refusal.{Refusal}
@@ -75,7 +75,7 @@ refused r f = record { answer = record { done = Done.None; found = 0; count = 0;
 -- refusal 2 before anything is written; else the list in force
 unfoldable pub onCourse : Bool → Geometry → ℕ → Flash → Course → Result
 onCourse checked g b f Damage = refused Refusal.Damage f
-onCourse checked g b f (Settle p) = answered checked g b (Settle p) (carried g b f (Settle p))
+onCourse checked g b f (FromLineThree p) = answered checked g b (FromLineThree p) (carried g b f (FromLineThree p))
 onCourse checked g b f (Resume c) = answered checked g b (Resume c) (carried g b f (Resume c))
 onCourse checked g b f Test = answered checked g b Test (carried g b f Test)
 onCourse checked g b f Permanent = answered checked g b Permanent (carried g b f Permanent)

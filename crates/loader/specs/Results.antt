@@ -8,7 +8,7 @@ use Rattle.flash.specs.declared.Run.{Run}
 use Rattle.flash.specs.declared.End.{End}
 use Rattle.flash.specs.Build.{Flash}
 use Rattle.plan.specs.declared.Course.{Course}
-use Rattle.plan.specs.declared.Course.the-variants.{Damage, Settle, Resume, Test, Permanent, Revert, Clear, Nothing}
+use Rattle.plan.specs.declared.Course.the-variants.{Damage, FromLineThree, Resume, Test, Permanent, Revert, Clear, Nothing}
 use Rattle.plan.specs.declared.Done.{Done}
 use Rattle.plan.specs.Asked.{flashOf}
 use Rattle.plan.specs.Decision.{doneOf, foundOf}
@@ -40,7 +40,7 @@ took checked g b course x0 x1 x2 r done found outcome d f o = rw (d, f, o, ended
 -- damage, and every other course
 unfoldable pub isDamage : Course → Bool
 isDamage Damage = true
-isDamage (Settle p) = false
+isDamage (FromLineThree p) = false
 isDamage (Resume c) = false
 isDamage Test = false
 isDamage Permanent = false
@@ -52,7 +52,7 @@ module _ (checked : Bool) (g : Geometry) (b : ℕ) (f : Flash) where
   pub damaged : (c : Course) → isDamage c ≡ true → onCourse checked g b f c ≡ refused Refusal.Damage f
   unfolding isDamage onCourse
   damaged Damage h = refl
-  damaged (Settle p) h = cc
+  damaged (FromLineThree p) h = cc
   damaged (Resume c) h = cc
   damaged Test h = cc
   damaged Permanent h = cc
@@ -63,7 +63,7 @@ module _ (checked : Bool) (g : Geometry) (b : ℕ) (f : Flash) where
   pub undamaged : (c : Course) → isDamage c ≡ false → onCourse checked g b f c ≡ answered checked g b c (carried g b f c)
   unfolding isDamage onCourse
   undamaged Damage h = cc
-  undamaged (Settle p) h = refl
+  undamaged (FromLineThree p) h = refl
   undamaged (Resume c) h = refl
   undamaged Test h = refl
   undamaged Permanent h = refl

@@ -138,7 +138,7 @@ fn is_damage(course: Course) -> bool
 {
     match course {
         Course::Damage => true,
-        Course::Settle(_) => false,
+        Course::FromLineThree(_) => false,
         Course::Resume(_) => false,
         Course::Test => false,
         Course::Permanent => false,

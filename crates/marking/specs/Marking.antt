@@ -9,9 +9,9 @@ use Rattle.flash.specs.declared.End.{End}
 use Rattle.flash.specs.Build.{slot0, slot1, Flash, valid}
 use Rattle.flash.specs.Base.{build}
 use Rattle.flash.specs.Operations.{Op, start, steps}
-use Rattle.trailer.specs.Trailer.{trailer, okAt, doneAt, magicOf, isGood, noMagic, markOf, isUnset, hasValue}
+use Rattle.trailer.specs.Trailer.{trailer, okAt, copyDoneAt, magicOf, isGood, noMagic, markOf, isUnset, hasValue}
 use Rattle.plan.specs.declared.Course.{Course}
-use Rattle.plan.specs.declared.Course.the-variants.{Damage, Settle, Resume, Test, Permanent, Revert, Clear, Nothing}
+use Rattle.plan.specs.declared.Course.the-variants.{Damage, FromLineThree, Resume, Test, Permanent, Revert, Clear, Nothing}
 use Rattle.plan.specs.Lists.{okOps, magicOps}
 use Rattle.plan.specs.Asked.{askedBy}
 use Rattle.answers.specs.declared.Refusal.{Refusal}
@@ -40,7 +40,7 @@ wroteAll g ops f =
 -- 2: damage under A or B; 6: "exchange under way (A, or B with c at least 3)"
 unfoldable pub unlessUnderWay : Course → Flash → MarkResult → MarkResult
 unlessUnderWay Damage f otherwise = refusedMark Refusal.Damage f
-unlessUnderWay (Settle p) f otherwise = refusedMark Refusal.UnderWay f
+unlessUnderWay (FromLineThree p) f otherwise = refusedMark Refusal.UnderWay f
 unlessUnderWay (Resume c) f otherwise = refusedMark Refusal.UnderWay f
 unlessUnderWay Test f otherwise = otherwise
 unlessUnderWay Permanent f otherwise = otherwise
@@ -70,7 +70,7 @@ marking permanent g f = unlessRefused g f (markUnlessMarked permanent g f)
 unfoldable pub confirmable : Geometry → Flash → Bool
 confirmable g f =
     let t0 = trailer (build g) slot0 f in
-    isGood (magicOf (build g) t0) && (hasValue 1 (markOf (build g) t0 (doneAt (build g))) && isUnset (markOf (build g) t0 (okAt (build g))))
+    isGood (magicOf (build g) t0) && (hasValue 1 (markOf (build g) t0 (copyDoneAt (build g))) && isUnset (markOf (build g) t0 (okAt (build g))))
 
 -- "Confirming writes slot 0 image ok 01"
 unfoldable pub confirmIfNeeded : Geometry → Flash → MarkResult

@@ -40,7 +40,7 @@ fn standing_of(course: Course) -> Standing
 {
     match course {
         Course::Damage => Standing::Refused(Refusal::Damage),
-        Course::Settle(_) => Standing::Refused(Refusal::UnderWay),
+        Course::FromLineThree(_) => Standing::Refused(Refusal::UnderWay),
         Course::Resume(_) => Standing::Refused(Refusal::UnderWay),
         Course::Test => Standing::Free,
         Course::Permanent => Standing::Free,

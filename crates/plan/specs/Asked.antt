@@ -8,7 +8,7 @@ use Rattle.flash.specs.Build.{slot0, slot1, scratch, Flash}
 use Rattle.flash.specs.Base.{build}
 use Rattle.trailer.specs.Trailer.{trailer}
 use Rattle.plan.specs.declared.Course.{Course}
-use Rattle.plan.specs.declared.Course.the-variants.{Damage, Settle, Resume, Test, Permanent, Revert, Clear, Nothing}
+use Rattle.plan.specs.declared.Course.the-variants.{Damage, FromLineThree, Resume, Test, Permanent, Revert, Clear, Nothing}
 use Rattle.plan.specs.Decision.{asks}
 
 abbrev pub flashOf : List ℕ → List ℕ → List ℕ → Flash
@@ -21,7 +21,7 @@ askedBy g f = asks (build g) (trailer (build g) slot0 f) (trailer (build g) slot
 -- "In I to III the image in slot 1 is checked."
 unfoldable pub asksCheck : Course → Bool
 asksCheck Damage = false
-asksCheck (Settle p) = false
+asksCheck (FromLineThree p) = false
 asksCheck (Resume c) = false
 asksCheck Test = true
 asksCheck Permanent = true

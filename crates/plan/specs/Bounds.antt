@@ -12,16 +12,16 @@ use Rattle.flash.specs.declared.Geometry.{Geometry}
 use Rattle.flash.specs.Build.{Build}
 use Rattle.flash.specs.Base.{build}
 use Rattle.flash.specs.Small.{Small}
-use Rattle.trailer.specs.Trailer.{okAt, doneAt, magicOf, isGood, markOf, isUnset, hasValue, written, legal}
+use Rattle.trailer.specs.Trailer.{okAt, copyDoneAt, magicOf, isGood, markOf, isUnset, hasValue, written, legal}
 use Rattle.plan.specs.declared.Course.{Course}
-use Rattle.plan.specs.declared.Course.the-variants.{Damage, Settle, Resume, Test, Permanent, Revert, Clear, Nothing}
+use Rattle.plan.specs.declared.Course.the-variants.{Damage, FromLineThree, Resume, Test, Permanent, Revert, Clear, Nothing}
 use Rattle.plan.specs.Decision.{stepA, continue, stepB, stateC, asks, judged}
 use Rattle.plan.specs.DecisionLaws.{testDue, permanentDue, revertDue, most-marks}
 
 -- "c from 3 to 3n"
 unfoldable pub inBounds : Build → Course → Bool
 inBounds g Damage = true
-inBounds g (Settle p) = true
+inBounds g (FromLineThree p) = true
 inBounds g (Resume c) = leb 3 c && leb c (3 + length (g .moves))
 inBounds g Test = true
 inBounds g Permanent = true
@@ -45,8 +45,8 @@ module _ (g : Build) where
   unfolding inBounds stepA
   stepA-bounded t2 =
       let ok = markOf g t2 (okAt g) in
-      picked (isUnset ok) (Settle false) (pick (hasValue 1 ok) (Settle true) Damage) refl
-      (picked (hasValue 1 ok) (Settle true) Damage refl refl)
+      picked (isUnset ok) (FromLineThree false) (pick (hasValue 1 ok) (FromLineThree true) Damage) refl
+      (picked (hasValue 1 ok) (FromLineThree true) Damage refl refl)
 
   stateC-bounded : (t0 t1 : List ℕ) → inBounds g (stateC g t0 t1) ≡ true
   unfolding inBounds stateC
@@ -76,13 +76,13 @@ module _ (g : Build) where
       let c = stateC g t0 t1 in
       let marks = written g t0 0 (3 * g .sectors) in
       picked (isGood (magicOf g t2)) (stepA g t2) (stepB g t0 c) (stepA-bounded t2)
-      (picked (isGood (magicOf g t0) && isUnset (markOf g t0 (doneAt g))) (continue g t0 marks c) c
+      (picked (isGood (magicOf g t0) && isUnset (markOf g t0 (copyDoneAt g))) (continue g t0 marks c) c
       (continue-bounded t0 marks c (stateC-bounded t0 t1)) (stateC-bounded t0 t1))
 
   pub judged-bounded : (accepted : Bool) (course : Course) → inBounds g course ≡ true → inBounds g (judged accepted course) ≡ true
   unfolding inBounds judged
   judged-bounded accepted Damage h = refl
-  judged-bounded accepted (Settle p) h = refl
+  judged-bounded accepted (FromLineThree p) h = refl
   judged-bounded accepted (Resume c) h = h
   judged-bounded true Test h = refl
   judged-bounded false Test h = refl

@@ -14,16 +14,16 @@ use Rattle.flash.specs.Build.{slot0, slot1, scratch, Build, Flash}
 use Rattle.flash.specs.Base.{base, build}
 use Rattle.flash.specs.BaseLaws.{length-moves}
 use Rattle.flash.specs.Small.{Small}
-use Rattle.trailer.specs.Trailer.{trailer, okAt, doneAt, magicOf, isGood, noMagic, markOf, isUnset, hasValue, legal}
+use Rattle.trailer.specs.Trailer.{trailer, okAt, copyDoneAt, magicOf, isGood, noMagic, markOf, isUnset, hasValue, legal}
 use Rattle.plan.specs.declared.Course.{Course}
-use Rattle.plan.specs.declared.Course.the-variants.{Damage, Settle, Resume, Test, Permanent, Revert, Clear, Nothing}
+use Rattle.plan.specs.declared.Course.the-variants.{Damage, FromLineThree, Resume, Test, Permanent, Revert, Clear, Nothing}
 use Rattle.plan.specs.Decision.{continue, asks, judged, decide}
 use Rattle.plan.specs.Asked.{askedBy, asksCheck}
 
 -- ---- the tests of B and C by name
 
 abbrev pub marksRead : Build → List ℕ → Bool
-marksRead g t0 = isGood (magicOf g t0) && isUnset (markOf g t0 (doneAt g))
+marksRead g t0 = isGood (magicOf g t0) && isUnset (markOf g t0 (copyDoneAt g))
 
 abbrev pub testDue : Build → List ℕ → Bool
 testDue g t1 = isGood (magicOf g t1) && isUnset (markOf g t1 (okAt g))
@@ -33,7 +33,7 @@ permanentDue g t1 = isGood (magicOf g t1) && hasValue 1 (markOf g t1 (okAt g))
 
 abbrev pub revertDue : Build → List ℕ → List ℕ → Bool
 revertDue g t0 t1 =
-    isGood (magicOf g t0) && (isUnset (markOf g t0 (okAt g)) && (hasValue 1 (markOf g t0 (doneAt g)) && noMagic (magicOf g t1)))
+    isGood (magicOf g t0) && (isUnset (markOf g t0 (okAt g)) && (hasValue 1 (markOf g t0 (copyDoneAt g)) && noMagic (magicOf g t1)))
 
 -- ---- the run of marks
 
@@ -79,7 +79,7 @@ module _ (g : Build) (c : ℕ) (otherwise : Course) where
 pub accepted-course : (c : Course) → judged true c ≡ c
 unfolding judged
 accepted-course Damage = refl
-accepted-course (Settle p) = refl
+accepted-course (FromLineThree p) = refl
 accepted-course (Resume c) = refl
 accepted-course Test = refl
 accepted-course Permanent = refl
@@ -91,7 +91,7 @@ accepted-course Nothing = refl
 pub unchecked-course : (accepted : Bool) (c : Course) → asksCheck c ≡ false → judged accepted c ≡ c
 unfolding asksCheck judged
 unchecked-course accepted Damage h = refl
-unchecked-course accepted (Settle p) h = refl
+unchecked-course accepted (FromLineThree p) h = refl
 unchecked-course accepted (Resume c) h = refl
 unchecked-course accepted Test h = cc
 unchecked-course accepted Permanent h = cc
@@ -102,7 +102,7 @@ unchecked-course accepted Nothing h = refl
 pub rejected-course : (c : Course) → asksCheck c ≡ true → judged false c ≡ Clear
 unfolding asksCheck judged
 rejected-course Damage h = cc
-rejected-course (Settle p) h = cc
+rejected-course (FromLineThree p) h = cc
 rejected-course (Resume c) h = cc
 rejected-course Test h = refl
 rejected-course Permanent h = refl

@@ -8,7 +8,7 @@ use Rattle.flash.specs.declared.Offset.{Offset}
 use Rattle.flash.specs.Geometry.{sectorNo, startOf, unitAt, firstUnit, nextUnit, unitsPerSector, after}
 use Rattle.flash.specs.Build.{Area, slot0, slot1, scratch, Move, Build, geometry, dataSectors, trailerSector}
 use Rattle.flash.specs.Operations.{Op, erase, write, copy}
-use Rattle.trailer.specs.Trailer.{magicAt, okAt, doneAt, markAt, magicBytes, markBytes}
+use Rattle.trailer.specs.Trailer.{magicAt, okAt, copyDoneAt, markAt, magicBytes, markBytes}
 
 -- ---- a trailer sector's erase, and the writes in it
 
@@ -16,8 +16,8 @@ use Rattle.trailer.specs.Trailer.{magicAt, okAt, doneAt, markAt, magicBytes, ma
 abbrev pub trailerUnit : Build → Area → Offset → Unit
 trailerUnit g a at = unitAt (geometry g) (after (startOf (geometry g) (trailerSector g a)) at)
 
-abbrev pub clear : Build → Area → Op
-clear g a = erase a (trailerSector g a)
+abbrev pub eraseTrailer : Build → Area → Op
+eraseTrailer g a = erase a (trailerSector g a)
 
 abbrev pub mark : Build → Area → Offset → ℕ → Op
 mark g a at v = write a (trailerUnit g a at) (markBytes g v)
@@ -42,14 +42,14 @@ okOps g a false = []
 -- ---- the exchange; p: it is permanent or a revert
 
 -- "Trailer exchange": lines 1 and 2
-unfoldable pub begin : Build → Bool → List Op
-begin g p = clear g scratch ∷ (okOps g scratch p ++ magicOps g scratch)
+unfoldable pub linesOneTwo : Build → Bool → List Op
+linesOneTwo g p = eraseTrailer g scratch ∷ (okOps g scratch p ++ magicOps g scratch)
 
 -- lines 3 to 6
-unfoldable pub settle : Build → Bool → List Op
-settle g p =
-    clear g slot1 ∷ clear g slot0 ∷
-    ((okOps g slot0 p ++ (progress g 0 ∷ progress g 1 ∷ progress g 2 ∷ magicOps g slot0)) ++ (clear g scratch ∷ []))
+unfoldable pub linesThreeToSix : Build → Bool → List Op
+linesThreeToSix g p =
+    eraseTrailer g slot1 ∷ eraseTrailer g slot0 ∷
+    ((okOps g slot0 p ++ (progress g 0 ∷ progress g 1 ∷ progress g 2 ∷ magicOps g slot0)) ++ (eraseTrailer g scratch ∷ []))
 
 -- "writes all s/w units in rising order"
 unfoldable pub copies : Area → Unit → Area → Unit → ℕ → List Op
@@ -65,11 +65,11 @@ moveOps g m =
 
 -- "Data exchange": the moves ms, whose marks are those from number c on; "After the last mark, write copy done 01."
 unfoldable pub dataOps : Build → ℕ → List Move → List Op
-dataOps g c [] = mark g slot0 (doneAt g) 1 ∷ []
+dataOps g c [] = mark g slot0 (copyDoneAt g) 1 ∷ []
 dataOps g c (m ∷ ms) = moveOps g m ++ (progress g c ∷ dataOps g (suc c) ms)
 
 unfoldable pub exchange : Build → Bool → List Op
-exchange g p = begin g p ++ (settle g p ++ dataOps g 3 (g .moves))
+exchange g p = linesOneTwo g p ++ (linesThreeToSix g p ++ dataOps g 3 (g .moves))
 
 -- ---- the clear-out
 
@@ -79,4 +79,4 @@ erases a i (suc k) = erase a (sectorNo i) ∷ erases a (suc i) k
 
 -- "erase slot 1's data sectors 0 to m − 1, write slot 0 image ok 01 if it is Unset, erase slot 1's trailer sector"
 unfoldable pub clearOut : Build → Bool → List Op
-clearOut g unset = erases slot1 0 (dataSectors g slot1) ++ (okOps g slot0 unset ++ (clear g slot1 ∷ []))
+clearOut g unset = erases slot1 0 (dataSectors g slot1) ++ (okOps g slot0 unset ++ (eraseTrailer g slot1 ∷ []))

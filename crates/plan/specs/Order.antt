@@ -4,7 +4,7 @@ use mathlib.Core.List.{List}
 use mathlib.Core.Bool.{true, false, _&&_}
 use Prim.Native.Nat.{ℕ}
 use Rattle.flash.specs.Build.{Build}
-use Rattle.trailer.specs.Trailer.{okAt, doneAt, magicOf, markOf, isGood, isUnset, hasValue}
+use Rattle.trailer.specs.Trailer.{okAt, copyDoneAt, magicOf, markOf, isGood, isUnset, hasValue}
 use Rattle.plan.specs.declared.Course.the-variants.{Test, Permanent}
 use Rattle.plan.specs.Decision.{stepA, stepB, stateC, asks}
 
@@ -15,7 +15,7 @@ module _ (g : Build) (t0 t1 t2 : List ℕ) where
   scratch-first e = rw e
 
   -- C, where slot 0's magic is not Good, or its copy done is not Unset
-  pub not-B : isGood (magicOf g t2) ≡ false → (isGood (magicOf g t0) && isUnset (markOf g t0 (doneAt g))) ≡ false
+  pub not-B : isGood (magicOf g t2) ≡ false → (isGood (magicOf g t0) && isUnset (markOf g t0 (copyDoneAt g))) ≡ false
       → asks g t0 t1 t2 ≡ stateC g t0 t1
   unfolding asks stepB
   not-B e h = rw (e, h)

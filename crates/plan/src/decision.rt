@@ -23,10 +23,10 @@ fn step_a(g: Geometry, t2: &[u8]) -> Course
     ensures { λ r. ⌜ r ≡ stepA (build g) (now (t2 .entry)) ⌝ }
 {
     if ok_unset(g, t2) {
-        return Course::Settle(false);
+        return Course::FromLineThree(false);
     }
     if ok_set(g, t2) {
-        Course::Settle(true)
+        Course::FromLineThree(true)
     } else {
         Course::Damage
     }

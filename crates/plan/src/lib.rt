@@ -9,7 +9,7 @@ pub enum Course {
     // marks or scratch's image ok are damaged
     Damage,
     // the trailer exchange is under way: from its third line on; whether scratch has image ok
-    Settle(bool),
+    FromLineThree(bool),
     // the data exchange is under way, with this many marks written
     Resume(usize),
     // the exchanges
@@ -40,7 +40,7 @@ pub fn wants_check(course: Course) -> bool
         Course::Permanent => true,
         Course::Revert => true,
         Course::Damage => false,
-        Course::Settle(_) => false,
+        Course::FromLineThree(_) => false,
         Course::Resume(_) => false,
         Course::Clear => false,
         Course::Nothing => false,
@@ -66,7 +66,7 @@ pub fn done_of(course: Course) -> Done
 {
     match course {
         Course::Damage => Done::None,
-        Course::Settle(_) => Done::Resumed,
+        Course::FromLineThree(_) => Done::Resumed,
         Course::Resume(_) => Done::Resumed,
         Course::Test => Done::Test,
         Course::Permanent => Done::Permanent,
@@ -83,7 +83,7 @@ pub fn found_of(course: Course) -> usize
     match course {
         Course::Resume(c) => c,
         Course::Damage => 0,
-        Course::Settle(_) => 0,
+        Course::FromLineThree(_) => 0,
         Course::Test => 0,
         Course::Permanent => 0,
         Course::Revert => 0,

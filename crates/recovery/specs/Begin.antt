@@ -14,8 +14,8 @@ use Rattle.flash.specs.Build.{Area, scratch, Build, Flash, area, dataSectors}
 use Rattle.flash.specs.Operations.{Op, write, store, apply, runAll}
 use Rattle.flash.specs.Harm.{Cut, here, later}
 use Rattle.trailer.specs.Trailer.{magicBytes, trailer, magicAt, okAt, magicOf, markBytes, isGood, isUnset, hasValue}
-use Rattle.plan.specs.declared.Course.the-variants.{Settle}
-use Rattle.plan.specs.Lists.{trailerUnit, clear, writes, magicOps, okOps, begin}
+use Rattle.plan.specs.declared.Course.the-variants.{FromLineThree}
+use Rattle.plan.specs.Lists.{trailerUnit, eraseTrailer, writes, magicOps, okOps, linesOneTwo}
 use Rattle.plan.specs.Decision.{stepA}
 use Rattle.recovery.specs.All.{All, none, one}
 use Rattle.recovery.specs.Cuts.{runAll-append, cut-append, cut-nil}
@@ -74,14 +74,14 @@ module _ {g : Build} (geo : Geo g) where
       }) none
 
   pub cut-begin : (p : Bool) {f f' : Flash} → Sized g scratch f → isGood (magicOf g (trailer g scratch f)) ≡ false
-      → Cut g (begin g p) f f' → isGood (magicOf g (trailer g scratch f')) ≡ false
-  unfolding begin magicOps lastByte
+      → Cut g (linesOneTwo g p) f f' → isGood (magicOf g (trailer g scratch f')) ≡ false
+  unfolding linesOneTwo magicOps lastByte
   cut-begin p s ng (here t) = ap (λ x. isGood (magicOf g (trailer g scratch x))) (clear-whole geo scratch t) ∙ ng
   cut-begin p {f} {f'} s ng (later c) =
       not-good-read geo (trailer g scratch f') (go (cut-append (okOps g scratch p) (magicOps g scratch) c) ∙ erased)
     where
       f₁ : Flash
-      f₁ = apply g (clear g scratch) f
+      f₁ = apply g (eraseTrailer g scratch) f
 
       erased : lastByte g f₁ ≡ blank 1
       erased = ap (λ (t : List ℕ). part t (g .sector - 1) 1) (trailer-clear geo scratch f s)
@@ -108,8 +108,8 @@ begun g p = put (withOk g p (blank (g .sector))) (magicAt g .0) magicBytes
 
 -- lines 1 and 2 do not see what stood in scratch's trailer sector
 pub begin-run : (g : Build) (p : Bool) (f f' : Flash) → wipeTrailer g scratch f ≡ wipeTrailer g scratch f'
-    → runAll g (begin g p) f ≡ runAll g (begin g p) f'
-unfolding begin runAll apply
+    → runAll g (linesOneTwo g p) f ≡ runAll g (linesOneTwo g p) f'
+unfolding linesOneTwo runAll apply
 begin-run g p f f' e = ap (runAll g (okOps g scratch p ++ magicOps g scratch)) e
 
 module _ {g : Build} (geo : Geo g) where
@@ -118,10 +118,10 @@ module _ {g : Build} (geo : Geo g) where
   trailer-ok a true f = trailer-mark geo a (okAt g) 1 f (ok-unit geo)
   trailer-ok a false f = refl
 
-  pub trailer-begin : (p : Bool) (f : Flash) → Sized g scratch f → trailer g scratch (runAll g (begin g p) f) ≡ begun g p
-  unfolding begin runAll begun
+  pub trailer-begin : (p : Bool) (f : Flash) → Sized g scratch f → trailer g scratch (runAll g (linesOneTwo g p) f) ≡ begun g p
+  unfolding linesOneTwo runAll begun
   trailer-begin p f s =
-      let f₁ : Flash = apply g (clear g scratch) f in
+      let f₁ : Flash = apply g (eraseTrailer g scratch) f in
       ap (trailer g scratch) (runAll-append g (okOps g scratch p) (magicOps g scratch) f₁)
       ∙ trailer-magic geo scratch (runAll g (okOps g scratch p) f₁)
       ∙ ap (λ (t : List ℕ). put t (magicAt g .0) magicBytes)
@@ -136,7 +136,7 @@ module _ {g : Build} (geo : Geo g) where
       size true = length-put (blank (g .sector)) (okAt g .0) (markBytes g 1) ∙ length-blank (g .sector)
       size false = length-blank (g .sector)
 
-  pub step-A : (p : Bool) → stepA g (begun g p) ≡ Settle p
+  pub step-A : (p : Bool) → stepA g (begun g p) ≡ FromLineThree p
   unfolding stepA begun withOk isUnset hasValue
   step-A true = rw (value-read geo (begun g true) (okAt g) 1 (omega arith) read)
     where

@@ -11,10 +11,10 @@ use Rattle.flash.specs.Geometry.{sectorNo}
 use Rattle.flash.specs.Build.{Area, slot0, slot1, scratch, Build, Move, Flash, area, dataSectors, trailerSector, valid}
 use Rattle.flash.specs.Operations.{Op, erase, apply, run}
 use Rattle.flash.specs.Harm.{Cut}
-use Rattle.trailer.specs.Trailer.{doneAt}
+use Rattle.trailer.specs.Trailer.{copyDoneAt}
 use Rattle.plan.specs.declared.Course.{Course}
-use Rattle.plan.specs.declared.Course.the-variants.{Damage, Settle, Resume, Test, Permanent, Revert, Clear, Nothing}
-use Rattle.plan.specs.Lists.{clear, progress, begin, settle, moveOps, dataOps, exchange, erases, clearOut}
+use Rattle.plan.specs.declared.Course.the-variants.{Damage, FromLineThree, Resume, Test, Permanent, Revert, Clear, Nothing}
+use Rattle.plan.specs.Lists.{eraseTrailer, progress, linesOneTwo, linesThreeToSix, moveOps, dataOps, exchange, erases, clearOut}
 use Rattle.plan.specs.Decision.{decide, listOf, okUnset, inForce}
 use Rattle.recovery.specs.All.{All, none, one, all-append, all-map}
 use Rattle.recovery.specs.Windows.{Hidden, wipe, hidden-cut, hidden-erase, all-lengths}
@@ -79,7 +79,7 @@ places a i (suc k) = place a (sectorNo i) ∷ places a (suc i) k
 -- the moves that are left; slot 0's trailer sector (in it, image ok alone: `clear-out-only`) and slot 1
 unfoldable pub named : Build → Course → List Place
 named g Damage = []
-named g (Settle p) = trailers g ++ targets (g .moves)
+named g (FromLineThree p) = trailers g ++ targets (g .moves)
 named g (Resume c) = trailerOf g slot0 ∷ targets (drop (c - 3) (g .moves))
 named g Test = trailers g ++ targets (g .moves)
 named g Permanent = trailers g ++ targets (g .moves)
@@ -97,18 +97,18 @@ module _ {g : Build} (geo : Geo g) (b : Area) (k : Sector) where
   }
 
   -- erases and writes in a trailer sector
-  cleared : (a : Area) → sameSector a (trailerSector g a) b k ≡ false → Hidden g (λ f. sectorOf g f b k) (clear g a)
-  cleared a e = elsewhere a (trailerSector g a) e (clear g a) (hidden-erase g a (trailerSector g a))
+  cleared : (a : Area) → sameSector a (trailerSector g a) b k ≡ false → Hidden g (λ f. sectorOf g f b k) (eraseTrailer g a)
+  cleared a e = elsewhere a (trailerSector g a) e (eraseTrailer g a) (hidden-erase g a (trailerSector g a))
 
   noted : {ops : List Op} (a : Area) → sameSector a (trailerSector g a) b k ≡ false → All (Hidden g (wipeTrailer g a)) ops
       → All (Hidden g (λ f. sectorOf g f b k)) ops
   noted a e hs = all-map (elsewhere a (trailerSector g a) e) hs
 
-  begin-elsewhere : (p : Bool) → Unnamed (trailers g) b k → All (Hidden g (λ f. sectorOf g f b k)) (begin g p)
+  begin-elsewhere : (p : Bool) → Unnamed (trailers g) b k → All (Hidden g (λ f. sectorOf g f b k)) (linesOneTwo g p)
   begin-elsewhere p (one n₀ (one n₁ (one n₂ none))) = noted scratch n₂ (hidden-begin geo p)
 
-  settle-elsewhere : (p : Bool) → Unnamed (trailers g) b k → All (Hidden g (λ f. sectorOf g f b k)) (settle g p)
-  unfolding settle
+  settle-elsewhere : (p : Bool) → Unnamed (trailers g) b k → All (Hidden g (λ f. sectorOf g f b k)) (linesThreeToSix g p)
+  unfolding linesThreeToSix
   settle-elsewhere p (one n₀ (one n₁ (one n₂ none))) =
       let three : 3 < 3 * g .sectors = three-marks geo in
       one (cleared slot1 n₁) (one (cleared slot0 n₀) (all-append (noted slot0 n₀ (all-append (hidden-ok geo slot0 p)
@@ -125,7 +125,7 @@ module _ {g : Build} (geo : Geo g) (b : Area) (k : Sector) where
       → All (Hidden g (λ f. sectorOf g f b k)) (dataOps g c ms)
   unfolding dataOps targets
   data-elsewhere c [] l (one n₀ n) =
-      noted slot0 n₀ (one (hidden-mark geo slot0 (doneAt g) 1 (done-unit geo) (omega (arith, unit-small geo))) none)
+      noted slot0 n₀ (one (hidden-mark geo slot0 (copyDoneAt g) 1 (done-unit geo) (omega (arith, unit-small geo))) none)
   data-elsewhere c (m ∷ ms) l (one n₀ (one e n)) =
       rw (← append-assoc (moveOps g m) (progress g c ∷ []) (dataOps g (suc c) ms))
       (all-append (move-elsewhere c m (omega arith) (one n₀ (one e none))) (data-elsewhere (suc c) ms (omega arith) (one n₀ n)))
@@ -139,7 +139,7 @@ module _ {g : Build} (geo : Geo g) (b : Area) (k : Sector) where
 
   module _ (sound : Sound g) where
     rest-elsewhere : (p : Bool) → Unnamed (trailers g ++ targets (g .moves)) b k
-        → All (Hidden g (λ f. sectorOf g f b k)) (settle g p ++ dataOps g 3 (g .moves))
+        → All (Hidden g (λ f. sectorOf g f b k)) (linesThreeToSix g p ++ dataOps g 3 (g .moves))
     rest-elsewhere p (one n₀ (one n₁ (one n₂ n))) =
         all-append (settle-elsewhere p (one n₀ (one n₁ (one n₂ none)))) (data-elsewhere 3 (g .moves) (sound .places) (one n₀ n))
 
@@ -153,7 +153,7 @@ module _ {g : Build} (geo : Geo g) (b : Area) (k : Sector) where
         → Unnamed (named g course) b k → All (Hidden g (λ f. sectorOf g f b k)) (listOf g unset course)
     unfolding listOf named clearOut
     course-elsewhere unset Damage h n = none
-    course-elsewhere unset (Settle p) h n = rest-elsewhere p n
+    course-elsewhere unset (FromLineThree p) h n = rest-elsewhere p n
     course-elsewhere unset (Resume c) h n =
         let lo : 3 ≤ c = h c refl .0 in
         let hi : c ≤ 3 + length (g .moves) = h c refl .1 in
@@ -167,7 +167,7 @@ module _ {g : Build} (geo : Geo g) (b : Area) (k : Sector) where
     course-elsewhere unset Nothing h n = none
 
 -- lines 1 to 6 of the trailer exchange: the three trailer sectors
-pub trailer-exchange-only : {g : Build} → Geo g → (p : Bool) {f f' : Flash} → During g (begin g p ++ settle g p) f f'
+pub trailer-exchange-only : {g : Build} → Geo g → (p : Bool) {f f' : Flash} → During g (linesOneTwo g p ++ linesThreeToSix g p) f f'
     → Only g (trailers g) f f'
 trailer-exchange-only geo p d b k n = unchanged (all-append (begin-elsewhere geo b k p n) (settle-elsewhere geo b k p n)) d
 

@@ -7,7 +7,7 @@ use native.Mathlib.Nat.{mul-le-mul-right}
 use native.Mathlib.Omega.{arith}
 use lib.ListN.{length, length-append}
 use Rattle.flash.specs.Build.{Build, Move}
-use Rattle.plan.specs.Lists.{begin, settle, moveOps, dataOps, exchange}
+use Rattle.plan.specs.Lists.{linesOneTwo, linesThreeToSix, moveOps, dataOps, exchange}
 use Rattle.plan.specs.Lengths.{one-if, length-copies, length-ok, length-magic}
 use Rattle.recovery.specs.Places.{per}
 
@@ -19,7 +19,7 @@ length-data g c (m ∷ ms) = simp (length-append, length-copies) (omega (arith, 
 -- for any list of moves
 pub length-exchange : (g : Build) (p : Bool)
     → length (exchange g p) ≡ length (g .moves) * (per g + 2) + 8 + 2 * one-if p + 2 * (16 / g .unit)
-unfolding exchange begin settle
+unfolding exchange linesOneTwo linesThreeToSix
 length-exchange g p = simp (length-append, length-ok, length-magic, length-data) (omega arith)
 
 -- what is left of an exchange is no longer than the whole
@@ -27,6 +27,6 @@ pub rest-short : (g : Build) (p : Bool) (c : ℕ) (ms : List Move) → length ms
     → length (dataOps g c ms) ≤ length (exchange g p)
 rest-short g p c ms h = simp (length-data, length-exchange) (omega (arith, mul-le-mul-right (per g + 2) h))
 
-pub settle-short : (g : Build) (p : Bool) → length (settle g p ++ dataOps g 3 (g .moves)) ≤ length (exchange g p)
+pub settle-short : (g : Build) (p : Bool) → length (linesThreeToSix g p ++ dataOps g 3 (g .moves)) ≤ length (exchange g p)
 unfolding exchange
 settle-short g p = simp length-append (omega arith)

@@ -11,8 +11,8 @@ use Rattle.flash.specs.Geometry.{sectorNo, startOf, after}
 use Rattle.flash.specs.declared.Offset.{Offset}
 use Rattle.flash.specs.Build.{slot0, Build, geometry, trailerSector, Flash, asked, fits}
 use Rattle.flash.specs.Base.{threeMoves, allMoves, base}
-use Rattle.trailer.specs.Trailer.{magicBytes, trailer, magicAt, okAt, doneAt, markStands, magicOf, markOf, isGood, noMagic, isUnset, hasValue, written, legal}
-use Rattle.plan.specs.Lists.{writes, magicOps, okOps, begin, settle, copies, moveOps, dataOps, exchange}
+use Rattle.trailer.specs.Trailer.{magicBytes, trailer, magicAt, okAt, copyDoneAt, markStands, magicOf, markOf, isGood, noMagic, isUnset, hasValue, written, legal}
+use Rattle.plan.specs.Lists.{writes, magicOps, okOps, linesOneTwo, linesThreeToSix, copies, moveOps, dataOps, exchange}
 use Rattle.plan.specs.declared.Course.{Course}
 use Rattle.plan.specs.declared.Course.the-variants.{Damage, Test, Nothing}
 use Rattle.plan.specs.Decision.{stepA, continue, stepB, stateC, asks, judged, decide}
@@ -59,7 +59,7 @@ edges =
     -- "w 1, s 512, n 2: marks begin at 608, mark 0 of sector 1 at 986, mark 2 of sector 0 at 991, copy done 992, image ok 1,000,
     -- magic 1,008." (the first of the progress marks are those of a sector 127)
     ∷ row (inSlot (markStands small (sectorNo 127) 0)) 608 ∷ row (inSlot (markStands small (sectorNo 1) 0)) 986
-    ∷ row (inSlot (markStands small (sectorNo 0) 2)) 991 ∷ row (inSlot (doneAt small)) 992 ∷ row (inSlot (okAt small)) 1000
+    ∷ row (inSlot (markStands small (sectorNo 0) 2)) 991 ∷ row (inSlot (copyDoneAt small)) 992 ∷ row (inSlot (okAt small)) 1000
     ∷ row (inSlot (magicAt small)) 1008
     -- "magic words f395c277, 7fefd260, 0f505235, 8079b62c", "The words are little endian here"
     ∷ row (littleEndian 0xf395c277 ++ littleEndian 0x7fefd260 ++ littleEndian 0x0f505235 ++ littleEndian 0x8079b62c) magicBytes
@@ -74,7 +74,7 @@ edges =
     ∷ row (course ran (slot [] [] magicBytes)) Test ∷ []
 
 pub edges-hold : Holds edges
-unfolding edges taken inSlot littleEndian course ran accepts flash slot small base fits asked every decide judged asks stepA stepB continue stateC written legal hasValue isUnset noMagic isGood markOf magicOf trailer markStands magicBytes writes magicOps okOps begin settle copies moveOps dataOps exchange threeMoves allMoves put part blank same
+unfolding edges taken inSlot littleEndian course ran accepts flash slot small base fits asked every decide judged asks stepA stepB continue stateC written legal hasValue isUnset noMagic isGood markOf magicOf trailer markStands magicBytes writes magicOps okOps linesOneTwo linesThreeToSix copies moveOps dataOps exchange threeMoves allMoves put part blank same
 edges-hold =
     and refl (and refl (and refl (and refl (and refl (and refl (and refl (and refl (and refl (and refl (and refl
     (and refl (and refl (and refl (and refl (and refl (and refl (and refl (and refl (and refl (and refl (and refl

@@ -12,8 +12,8 @@ use Rattle.flash.specs.Operations.{Op, runAll}
 use Rattle.flash.specs.Harm.{Cut}
 use Rattle.trailer.specs.Trailer.{trailer, magicOf, isGood}
 use Rattle.plan.specs.declared.Course.{Course}
-use Rattle.plan.specs.declared.Course.the-variants.{Settle, Resume}
-use Rattle.plan.specs.Lists.{progress, begin, settle, moveOps, dataOps, exchange}
+use Rattle.plan.specs.declared.Course.the-variants.{FromLineThree, Resume}
+use Rattle.plan.specs.Lists.{progress, linesOneTwo, linesThreeToSix, moveOps, dataOps, exchange}
 use Rattle.plan.specs.Decision.{stepB, stateC, asks, judged, decide, listOf, okUnset, inForce, foundOf}
 use Rattle.recovery.specs.All.{All, none, one, one-less}
 use Rattle.recovery.specs.Cuts.{runAll-append}
@@ -152,27 +152,27 @@ module _ (check : List ℕ → Bool) {g : Build} (geo : Geo g) (sound : Sound g)
       by-slots f = judged (check (take (g .lent * g .sector) (f .in1)))
           (stepB g (trailer g slot0 f) (stateC g (trailer g slot0 f) (trailer g slot1 f)))
 
-  step-A-taken : (f : Flash) → trailer g scratch f ≡ begun g p → decide check g f ≡ Settle p
+  step-A-taken : (f : Flash) → trailer g scratch f ≡ begun g p → decide check g f ≡ FromLineThree p
   unfolding decide asks judged
   step-A-taken f e = rw (e, begun-good geo p, step-A geo p)
 
   started : Flash
-  started = runAll g (begin g p) f₀
+  started = runAll g (linesOneTwo g p) f₀
 
   chunks : List (Chunk g)
   chunks = beginChunk geo p ∷ settleChunk geo p ∷ dataChunks geo 3 (g .moves)
 
-  settled-at : At g f₀ 3 (g .moves) (runAll g (settle g p) started)
+  settled-at : At g f₀ 3 (g .moves) (runAll g (linesThreeToSix g p) started)
   unfolding started moved
   settled-at =
-      let z : (a : Area) → Sized g a started = λ a. sized-run g a (begin g p) f₀ (sized a) in
+      let z : (a : Area) → Sized g a started = λ a. sized-run g a (linesOneTwo g p) f₀ (sized a) in
       record {
         enough = omega arith;
         left = refl;
         total = omega arith;
         proper = sound .proper;
         under = settled geo p started (z slot0) (z scratch);
-        sized = λ a. sized-run g a (settle g p) started (z a);
+        sized = λ a. sized-run g a (linesThreeToSix g p) started (z a);
         sectors = sector-settled geo p f₀;
       }
 
@@ -180,18 +180,18 @@ module _ (check : List ℕ → Bool) {g : Build} (geo : Geo g) (sound : Sound g)
       → (inForce check g f ≡ allOps (settleChunk geo p ∷ dataChunks geo 3 (g .moves))) × Way check g p f₀ f
   unfolding started allOps settleChunk trailer listOf foundOf
   follow-settle f l inv =
-      let rest : List Op = settle g p ++ dataOps g 3 (g .moves) in
-      let e : decide check g f ≡ Settle p =
+      let rest : List Op = linesThreeToSix g p ++ dataOps g 3 (g .moves) in
+      let e : decide check g f ≡ FromLineThree p =
       step-A-taken f (ap (λ x. drop (dataSectors g scratch * g .sector) (x .in2)) l ∙ trailer-begin geo p f₀ (sized scratch)) in
-      let i : inForce check g f ≡ rest = planned f inv (Settle p) e in (
-        i ∙ ap (λ (x : List Op). settle g p ++ x) (sym (all-data geo 3 (g .moves))),
-        way f (Settle p) rest i e (settle-short g p) (before (λ b k h.
+      let i : inForce check g f ≡ rest = planned f inv (FromLineThree p) e in (
+        i ∙ ap (λ (x : List Op). linesThreeToSix g p ++ x) (sym (all-data geo 3 (g .moves))),
+        way f (FromLineThree p) rest i e (settle-short g p) (before (λ b k h.
             sector-both geo b k f started h l ∙ sector-same geo scratch b k started f₀ h (hidden-run (hidden-begin geo p) f₀))),
       )
 
   all-exchange : allOps chunks ≡ exchange g p
   unfolding chunks allOps beginChunk settleChunk exchange
-  all-exchange = ap (λ (x : List Op). begin g p ++ (settle g p ++ x)) (all-data geo 3 (g .moves))
+  all-exchange = ap (λ (x : List Op). linesOneTwo g p ++ (linesThreeToSix g p ++ x)) (all-data geo 3 (g .moves))
 
   follow-begin : (f : Flash) → BeginLike g f f₀ → SameLengths f₀ f → (inForce check g f ≡ allOps chunks) × Way check g p f₀ f
   follow-begin f l inv =

@@ -17,8 +17,8 @@ use Rattle.flash.specs.Geometry.{firstUnit, nextUnit}
 use Rattle.flash.specs.Build.{Area, slot0, slot1, scratch, Build, Move, Flash, area, geometry, dataSectors}
 use Rattle.flash.specs.Operations.{Op, erase, write, copy, store, unitOf, apply, runAll}
 use Rattle.flash.specs.AreaLaws.{area-store}
-use Rattle.trailer.specs.Trailer.{magicBytes, trailer, magicAt, okAt, doneAt, markAt, markBytes}
-use Rattle.plan.specs.Lists.{trailerUnit, clear, mark, progress, writes, magicOps, okOps, begin, settle, copies, moveOps, dataOps, exchange}
+use Rattle.trailer.specs.Trailer.{magicBytes, trailer, magicAt, okAt, copyDoneAt, markAt, markBytes}
+use Rattle.plan.specs.Lists.{trailerUnit, eraseTrailer, mark, progress, writes, magicOps, okOps, linesOneTwo, linesThreeToSix, copies, moveOps, dataOps, exchange}
 use Rattle.recovery.specs.All.{All, one-less}
 use Rattle.recovery.specs.Windows.{wipe, hidden-run}
 use Rattle.recovery.specs.Places.{Geo, Sized, per, per-back, unit-back, unit-small, magic-unit, magic-units, ok-unit, done-unit, mark-unit, length-mark, trailer-clear, trailer-mark}
@@ -130,19 +130,19 @@ module _ {g : Build} (geo : Geo g) where
   ok-blank : part (blank (g .sector)) (okAt g .0) (g .unit) ≡ blank (g .unit)
   ok-blank = part-blank (g .sector) (okAt g .0) (g .unit) (omega (arith, unit-small geo))
 
-  fresh-begin : (p : Bool) (f : Flash) → Sized g scratch f → Fresh g (begin g p) f
-  unfolding begin
+  fresh-begin : (p : Bool) (f : Flash) → Sized g scratch f → Fresh g (linesOneTwo g p) f
+  unfolding linesOneTwo
   fresh-begin p f z =
-      let f₁ : Flash = apply g (clear g scratch) f in
+      let f₁ : Flash = apply g (eraseTrailer g scratch) f in
       let t : trailer g scratch f₁ ≡ blank (g .sector) = trailer-clear geo scratch f z in
       erasing (fresh-append (okOps g scratch p) (magicOps g scratch) (fresh-ok scratch p f₁ (λ q. rw t ok-blank))
       (fresh-magic scratch (runAll g (okOps g scratch p) f₁) (rw (trailer-ok geo scratch p f₁, t) (tail-ok p))))
 
-  fresh-settle : (p : Bool) (f : Flash) → Sized g slot0 f → Fresh g (settle g p) f
-  unfolding settle apply trailer runAll
+  fresh-settle : (p : Bool) (f : Flash) → Sized g slot0 f → Fresh g (linesThreeToSix g p) f
+  unfolding linesThreeToSix apply trailer runAll
   fresh-settle p f z =
-      let f₁ : Flash = apply g (clear g slot0) (apply g (clear g slot1) f) in
-      let t : trailer g slot0 f₁ ≡ blank (g .sector) = trailer-clear geo slot0 (apply g (clear g slot1) f) z in
+      let f₁ : Flash = apply g (eraseTrailer g slot0) (apply g (eraseTrailer g slot1) f) in
+      let t : trailer g slot0 f₁ ≡ blank (g .sector) = trailer-clear geo slot0 (apply g (eraseTrailer g slot1) f) z in
       let f₂ : Flash = runAll g (okOps g slot0 p) f₁ in
       let f₃ : Flash = apply g (progress g 0) f₂ in
       let f₄ : Flash = apply g (progress g 1) f₃ in
@@ -157,7 +157,7 @@ module _ {g : Build} (geo : Geo g) where
       let e₅ : part (trailer g slot0 f₅) (magicAt g .0) 16 ≡ blank 16 =
       tail-progress 2 f₄ h₂ (tail-progress 1 f₃ h₁ (tail-progress 0 f₂ h₀ e)) in
       let marks : List Op = progress g 0 ∷ progress g 1 ∷ progress g 2 ∷ magicOps g slot0 in
-      erasing (erasing (fresh-append (okOps g slot0 p ++ marks) (clear g scratch ∷ [])
+      erasing (erasing (fresh-append (okOps g slot0 p ++ marks) (eraseTrailer g scratch ∷ [])
       (fresh-append (okOps g slot0 p) marks (fresh-ok slot0 p f₁ (λ q. rw t ok-blank))
       (fresh-mark slot0 (markAt g 0) (g .value 0) f₂ (mark-unit geo 0) (m₂ .free .after 0 (omega arith) h₀)
       (fresh-mark slot0 (markAt g 1) (g .value 1) f₃ (mark-unit geo 1) (m₃ .free .after 1 (omega arith) h₁)
@@ -181,7 +181,7 @@ module _ {g : Build} (geo : Geo g) where
   pub fresh-data : (ms : List Move) (c : ℕ) (f : Flash) → All (Proper g) ms → c + length ms ≤ 3 * g .sectors
       → ((a : Area) → Sized g a f) → Free g c (trailer g slot0 f) → Fresh g (dataOps g c ms) f
   unfolding dataOps runAll
-  fresh-data [] c f ok l z r = fresh-mark slot0 (doneAt g) 1 f (done-unit geo) (r .done) end
+  fresh-data [] c f ok l z r = fresh-mark slot0 (copyDoneAt g) 1 f (done-unit geo) (r .done) end
   fresh-data (m ∷ ms) c f ok l z r =
       let h : m .to-sector .0 < dataSectors g (m .to) = one-less ok .0 .writes in
       let f₁ : Flash = runAll g (moveOps g m) f in
@@ -197,14 +197,14 @@ module _ {g : Build} (geo : Geo g) where
   -- ---- an exchange, from its third line and from its first
 
   module _ (sound : Sound g) where
-    pub fresh-rest : (p : Bool) (f : Flash) → ((a : Area) → Sized g a f) → Fresh g (settle g p ++ dataOps g 3 (g .moves)) f
+    pub fresh-rest : (p : Bool) (f : Flash) → ((a : Area) → Sized g a f) → Fresh g (linesThreeToSix g p ++ dataOps g 3 (g .moves)) f
     fresh-rest p f z =
-        let u : Under g 3 (runAll g (settle g p) f) = settled geo p f (z slot0) (z scratch) in
-        fresh-append (settle g p) (dataOps g 3 (g .moves)) (fresh-settle p f (z slot0))
-        (fresh-data (g .moves) 3 (runAll g (settle g p) f) (sound .proper) (sound .places) (λ a. sized-run g a (settle g p) f (z a))
+        let u : Under g 3 (runAll g (linesThreeToSix g p) f) = settled geo p f (z slot0) (z scratch) in
+        fresh-append (linesThreeToSix g p) (dataOps g 3 (g .moves)) (fresh-settle p f (z slot0))
+        (fresh-data (g .moves) 3 (runAll g (linesThreeToSix g p) f) (sound .proper) (sound .places) (λ a. sized-run g a (linesThreeToSix g p) f (z a))
         (u .marked .free))
 
     pub fresh-exchange : (p : Bool) (f : Flash) → ((a : Area) → Sized g a f) → Fresh g (exchange g p) f
     unfolding exchange
-    fresh-exchange p f z = fresh-append (begin g p) (settle g p ++ dataOps g 3 (g .moves)) (fresh-begin p f (z scratch))
-        (fresh-rest p (runAll g (begin g p) f) (λ a. sized-run g a (begin g p) f (z a)))
+    fresh-exchange p f z = fresh-append (linesOneTwo g p) (linesThreeToSix g p ++ dataOps g 3 (g .moves)) (fresh-begin p f (z scratch))
+        (fresh-rest p (runAll g (linesOneTwo g p) f) (λ a. sized-run g a (linesOneTwo g p) f (z a)))

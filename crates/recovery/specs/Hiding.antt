@@ -13,7 +13,7 @@ use Rattle.flash.specs.Geometry.{firstUnit, nextUnit}
 use Rattle.flash.specs.Build.{Area, slot0, scratch, Build, Move, Flash, geometry, dataSectors, trailerSector}
 use Rattle.flash.specs.Operations.{apply, runAll}
 use Rattle.trailer.specs.Trailer.{magicBytes, magicAt, okAt, markAt, markBytes}
-use Rattle.plan.specs.Lists.{trailerUnit, mark, progress, writes, magicOps, okOps, begin, copies, moveOps}
+use Rattle.plan.specs.Lists.{trailerUnit, mark, progress, writes, magicOps, okOps, linesOneTwo, copies, moveOps}
 use Rattle.recovery.specs.All.{All, none, one, all-append}
 use Rattle.recovery.specs.Windows.{Hidden, wipe, hidden-erase, hidden-write, hidden-copy}
 use Rattle.recovery.specs.Places.{Geo, per, unit-back, per-back, unit-small, magic-unit, magic-units, ok-unit, mark-unit, length-mark}
@@ -49,8 +49,8 @@ module _ {g : Build} (geo : Geo g) where
   hidden-ok a true = one (hidden-mark a (okAt g) 1 (ok-unit geo) (omega (arith, unit-small geo))) none
   hidden-ok a false = none
 
-  pub hidden-begin : (p : Bool) → All (Hidden g (wipeTrailer g scratch)) (begin g p)
-  unfolding begin
+  pub hidden-begin : (p : Bool) → All (Hidden g (wipeTrailer g scratch)) (linesOneTwo g p)
+  unfolding linesOneTwo
   hidden-begin p = one (hidden-erase g scratch (trailerSector g scratch)) (all-append (hidden-ok scratch p) (hidden-magic scratch))
 
   pub hidden-progress : (k : ℕ) → k < 3 * g .sectors → Hidden g (wipeTrailer g slot0) (progress g k)

@@ -14,8 +14,8 @@ use Rattle.flash.specs.Geometry.{firstUnit, nextUnit}
 use Rattle.flash.specs.Build.{Area, slot0, scratch, Build, Move, Flash, area, geometry, dataSectors, trailerSector}
 use Rattle.flash.specs.Operations.{copy, store, apply, run, runAll}
 use Rattle.flash.specs.AreaLaws.{length-store, store-again, store-join, store-nil}
-use Rattle.trailer.specs.Trailer.{doneAt}
-use Rattle.plan.specs.Lists.{clear, mark, progress, copies, moveOps, dataOps, begin, settle, exchange}
+use Rattle.trailer.specs.Trailer.{copyDoneAt}
+use Rattle.plan.specs.Lists.{eraseTrailer, mark, progress, copies, moveOps, dataOps, linesOneTwo, linesThreeToSix, exchange}
 use Rattle.recovery.specs.All.{All, one-less}
 use Rattle.recovery.specs.Cuts.{runAll-append, run-all}
 use Rattle.recovery.specs.Windows.{hidden-run, hidden-erase, wipe}
@@ -133,12 +133,12 @@ module _ {g : Build} (geo : Geo g) where
       sector-same geo slot0 b k (apply g (progress g c) f₁) f₁ h (hidden-progress geo c p .done f₁) ∙ sector-move m ok f z b k
 
   pub sector-settled : (p : Bool) (f : Flash) (b : Area) (k : Sector) → k .0 < dataSectors g b
-      → sectorOf g (runAll g (settle g p) (runAll g (begin g p) f)) b k ≡ sectorOf g f b k
+      → sectorOf g (runAll g (linesThreeToSix g p) (runAll g (linesOneTwo g p) f)) b k ≡ sectorOf g f b k
   sector-settled p f b k h =
-      let f₁ : Flash = runAll g (begin g p) f in
+      let f₁ : Flash = runAll g (linesOneTwo g p) f in
       let f₂ : Flash = runAll g (settling g p) f₁ in
       ap (λ (x : Flash). sectorOf g x b k) (settle-split g p f₁)
-      ∙ sector-same geo scratch b k (apply g (clear g scratch) f₂) f₂ h (hidden-erase g scratch (trailerSector g scratch) .done f₂)
+      ∙ sector-same geo scratch b k (apply g (eraseTrailer g scratch) f₂) f₂ h (hidden-erase g scratch (trailerSector g scratch) .done f₂)
       ∙ sector-both geo b k f₂ f₁ h (hidden-run (hidden-settling geo p) f₁)
       ∙ sector-same geo scratch b k f₁ f h (hidden-run (hidden-begin geo p) f)
 
@@ -148,8 +148,8 @@ module _ {g : Build} (geo : Geo g) where
       → sectorOf g (runAll g (dataOps g c ms) f) b k ≡ moved ms (sectorOf g f) b k
   unfolding dataOps moved runAll
   sector-data [] c f ok l z b k h =
-      sector-same geo slot0 b k (apply g (mark g slot0 (doneAt g) 1) f) f h
-      (hidden-mark geo slot0 (doneAt g) 1 (done-unit geo) (omega (arith, unit-small geo)) .done f)
+      sector-same geo slot0 b k (apply g (mark g slot0 (copyDoneAt g) 1) f) f h
+      (hidden-mark geo slot0 (copyDoneAt g) 1 (done-unit geo) (omega (arith, unit-small geo)) .done f)
   sector-data (m ∷ ms) c f ok l z b k h =
       let f₁ : Flash = runAll g (moveOps g m) f in
       let f₂ : Flash = apply g (progress g c) f₁ in
@@ -165,10 +165,10 @@ module _ {g : Build} (geo : Geo g) where
       → sectorOf g (runAll g (exchange g p) f) b k ≡ moved (g .moves) (sectorOf g f) b k
   unfolding exchange
   sector-exchange p f ok l z b k h =
-      let f₁ : Flash = runAll g (begin g p) f in
-      let f₃ : Flash = runAll g (settle g p) f₁ in
-      let z₃ : (a : Area) → Sized g a f₃ = λ a. sized-run g a (settle g p) f₁ (sized-run g a (begin g p) f (z a)) in
-      ap (λ (x : Flash). sectorOf g x b k) (runAll-append g (begin g p) (settle g p ++ dataOps g 3 (g .moves)) f
-      ∙ runAll-append g (settle g p) (dataOps g 3 (g .moves)) f₁)
+      let f₁ : Flash = runAll g (linesOneTwo g p) f in
+      let f₃ : Flash = runAll g (linesThreeToSix g p) f₁ in
+      let z₃ : (a : Area) → Sized g a f₃ = λ a. sized-run g a (linesThreeToSix g p) f₁ (sized-run g a (linesOneTwo g p) f (z a)) in
+      ap (λ (x : Flash). sectorOf g x b k) (runAll-append g (linesOneTwo g p) (linesThreeToSix g p ++ dataOps g 3 (g .moves)) f
+      ∙ runAll-append g (linesThreeToSix g p) (dataOps g 3 (g .moves)) f₁)
       ∙ sector-data (g .moves) 3 f₃ ok l z₃ b k h
       ∙ moved-same g (g .moves) ok (sectorOf g f₃) (sectorOf g f) (sector-settled p f) b k h

@@ -12,7 +12,7 @@ use Rattle.spans.specs.Laws.{length-blank, part-put-after}
 use Rattle.flash.specs.declared.Sector.{Sector}
 use Rattle.flash.specs.Build.{Area, slot0, scratch, Build, Move, Flash, dataSectors}
 use Rattle.flash.specs.Operations.{apply, runAll}
-use Rattle.trailer.specs.Trailer.{trailer, magicAt, doneAt, markAt, magicOf, markBytes, isGood, written}
+use Rattle.trailer.specs.Trailer.{trailer, magicAt, copyDoneAt, markAt, magicOf, markBytes, isGood, written}
 use Rattle.plan.specs.declared.Course.the-variants.{Resume}
 use Rattle.plan.specs.Lists.{progress, moveOps}
 use Rattle.plan.specs.Decision.{continue, stepB, asks, judged, decide}
@@ -73,7 +73,7 @@ module _ {g : Build} (geo : Geo g) where
       rw (
         u .idle,
         good-read geo t (u .magic),
-        unset-read geo t (doneAt g) (u .marked .free .done),
+        unset-read geo t (copyDoneAt g) (u .marked .free .done),
         m,
         legal-from geo small (u .marked) b 0 (3 * g .sectors) (omega arith),
         ne-eqb c 0 (λ q. omega arith),

@@ -13,7 +13,7 @@ use Rattle.flash.specs.Build.{slot0, slot1, scratch, Build, Flash}
 use Rattle.flash.specs.Operations.{run, runAll, State, steps, start}
 use Rattle.trailer.specs.Trailer.{trailer, okAt, magicOf, markOf, isGood, isUnset, hasValue}
 use Rattle.plan.specs.declared.Course.{Course}
-use Rattle.plan.specs.declared.Course.the-variants.{Damage, Settle, Resume, Test, Permanent, Revert, Clear, Nothing}
+use Rattle.plan.specs.declared.Course.the-variants.{Damage, FromLineThree, Resume, Test, Permanent, Revert, Clear, Nothing}
 use Rattle.plan.specs.Lists.{exchange}
 use Rattle.plan.specs.Decision.{stepA, stepB, stateC, asks, judged, decide, inForce}
 use Rattle.recovery.specs.Cuts.{run-all}
@@ -26,7 +26,7 @@ use Rattle.recovery.specs.Bridge.{in-force-steps}
 
 exchanges : Course → Bool
 exchanges Damage = false
-exchanges (Settle p) = false
+exchanges (FromLineThree p) = false
 exchanges (Resume c) = false
 exchanges Test = true
 exchanges Permanent = true
@@ -44,7 +44,7 @@ not-by-A : (g : Build) (t : List ℕ) (accepted : Bool) → exchanges (judged ac
 unfolding stepA exchanges judged
 not-by-A g t accepted = go (isUnset (markOf g t (okAt g))) (hasValue 1 (markOf g t (okAt g)))
   where
-    go : (a b : Bool) → exchanges (judged accepted (pick a (Settle false) (pick b (Settle true) Damage))) ≡ false
+    go : (a b : Bool) → exchanges (judged accepted (pick a (FromLineThree false) (pick b (FromLineThree true) Damage))) ≡ false
     go true b = refl
     go false true = refl
     go false false = refl

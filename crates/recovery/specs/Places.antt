@@ -15,8 +15,8 @@ use Rattle.flash.specs.Build.{Area, Build, Flash, area, geometry, dataSectors}
 use Rattle.flash.specs.Operations.{write, store, apply, runAll}
 use Rattle.flash.specs.Harm.{Torn, as-before, half-erased, half-written}
 use Rattle.flash.specs.AreaLaws.{same-area, unseen, area-store, store-nil, store-join}
-use Rattle.trailer.specs.Trailer.{magicBytes, trailer, magicAt, okAt, doneAt, markAt, markBytes}
-use Rattle.plan.specs.Lists.{trailerUnit, clear, mark, writes, magicOps}
+use Rattle.trailer.specs.Trailer.{magicBytes, trailer, magicAt, okAt, copyDoneAt, markAt, markBytes}
+use Rattle.plan.specs.Lists.{trailerUnit, eraseTrailer, mark, writes, magicOps}
 
 -- what a valid geometry gives
 pub record Geo (g : Build) : Type 0 where
@@ -82,7 +82,7 @@ module _ {g : Build} (geo : Geo g) where
   pub ok-unit : g .unit ∣ okAt g .0
   ok-unit = dvd-sub (g .unit) (geo .whole) (dvd-mul-left-of-dvd (g .unit) (geo .eight) 3)
 
-  pub done-unit : g .unit ∣ doneAt g .0
+  pub done-unit : g .unit ∣ copyDoneAt g .0
   done-unit = dvd-sub (g .unit) (geo .whole) (dvd-mul-left-of-dvd (g .unit) (geo .eight) 4)
 
   pub mark-unit : (k : ℕ) → g .unit ∣ markAt g k .0
@@ -97,7 +97,7 @@ module _ {g : Build} (geo : Geo g) where
   magic-units = div-mul-cancel (g .unit) (dvd-mul-left-of-dvd (g .unit) (geo .eight) 2)
 
   -- an operation on a trailer sector happens or does not
-  pub clear-whole : (a : Area) {f f' : Flash} → Torn g (clear g a) f f' → f' ≡ f
+  pub clear-whole : (a : Area) {f f' : Flash} → Torn g (eraseTrailer g a) f f' → f' ≡ f
   clear-whole a (as-before e) = e
   clear-whole a (half-erased bs q l e) = absurd (omega arith)
 
@@ -113,7 +113,7 @@ module _ {g : Build} (geo : Geo g) where
   mark-whole a at v d = write-whole a (at .0) (trailerUnit g a at) (unit-back a at d)
 
   -- and what the trailer sectors then hold
-  pub trailer-clear : (a : Area) (f : Flash) → Sized g a f → trailer g a (apply g (clear g a) f) ≡ blank (g .sector)
+  pub trailer-clear : (a : Area) (f : Flash) → Sized g a f → trailer g a (apply g (eraseTrailer g a) f) ≡ blank (g .sector)
   unfolding apply
   trailer-clear a f h =
       ap (λ (x : ℕ). trailer g a (store a x (blank (g .sector)) f)) (sym (add-zero (dataSectors g a * g .sector)))

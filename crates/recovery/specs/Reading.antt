@@ -15,7 +15,7 @@ use Rattle.flash.specs.declared.Offset.{Offset}
 use Rattle.flash.specs.Build.{Build}
 use Rattle.trailer.specs.declared.Magic.{Magic}
 use Rattle.trailer.specs.declared.Mark.{Mark}
-use Rattle.trailer.specs.Trailer.{magicBytes, magicAt, okAt, doneAt, markAt, magicOf, markOf, markBytes, isGood, isUnset, hasValue, written, legal}
+use Rattle.trailer.specs.Trailer.{magicBytes, magicAt, okAt, copyDoneAt, markAt, magicOf, markOf, markBytes, isGood, isUnset, hasValue, written, legal}
 use Rattle.recovery.specs.Places.{Geo, length-mark, unit-small}
 
 -- ---- single readings
@@ -77,7 +77,7 @@ unset-blank g t at h = go (same m (blank (g .unit))) (same (drop 1 m) (blank (g 
 
 -- the places that marks from number c on, and copy done, will take are erased
 pub record Free (g : Build) (c : ℕ) (t : List ℕ) : Type 0 where
-  pub done : part t (doneAt g .0) (g .unit) ≡ blank (g .unit)
+  pub done : part t (copyDoneAt g .0) (g .unit) ≡ blank (g .unit)
   pub after : (k : ℕ) → c ≤ k → k < 3 * g .sectors → part t (markAt g k .0) (g .unit) ≡ blank (g .unit)
 
 -- and the marks before number c are written
@@ -126,7 +126,7 @@ module _ {g : Build} (geo : Geo g) (small : (k : ℕ) → g .value k < 255) {c :
           rw (p, marks-unset k l (omega arith), ih)
 
 module _ {g : Build} (geo : Geo g) where
-  pub mark-room : {k : ℕ} → k < 3 * g .sectors → markAt g k .0 + g .unit ≤ doneAt g .0
+  pub mark-room : {k : ℕ} → k < 3 * g .sectors → markAt g k .0 + g .unit ≤ copyDoneAt g .0
   mark-room {k} h = omega (arith, geo .room, mul-le-mul-right {m = suc k} (g .unit) h)
 
   pub mark-apart : (j k : ℕ) → j < k → markAt g j .0 + g .unit ≤ markAt g k .0
@@ -137,7 +137,7 @@ module _ {g : Build} (geo : Geo g) where
     len = length-blank (g .sector);
     before = λ k q. absurd (omega arith);
     free = record {
-      done = part-blank (g .sector) (doneAt g .0) (g .unit) (omega (arith, unit-small geo));
+      done = part-blank (g .sector) (copyDoneAt g .0) (g .unit) (omega (arith, unit-small geo));
       after = λ k q r. part-blank (g .sector) (markAt g k .0) (g .unit) (omega (arith, mark-room r));
     };
   }
@@ -149,7 +149,7 @@ module _ {g : Build} (geo : Geo g) where
     len = length-put t at bs ∙ m .len;
     before = λ k q. past (markAt g k .0) (omega (arith, mark-room {k = k} (omega arith))) ∙ m .before k q;
     free = record {
-      done = past (doneAt g .0) (omega (arith, unit-small geo)) ∙ m .free .done;
+      done = past (copyDoneAt g .0) (omega (arith, unit-small geo)) ∙ m .free .done;
       after = λ k q r. past (markAt g k .0) (omega (arith, mark-room r)) ∙ m .free .after k q r;
     };
   }
@@ -161,7 +161,7 @@ module _ {g : Build} (geo : Geo g) where
   pub free-mark : {c : ℕ} {t : List ℕ} → c < 3 * g .sectors → Free g c t
       → Free g (suc c) (put t (markAt g c .0) (markBytes g (g .value c)))
   free-mark {c} {t} b r = record {
-    done = past (doneAt g .0) (mark-room b) ∙ r .done;
+    done = past (copyDoneAt g .0) (mark-room b) ∙ r .done;
     after = λ k q l. past (markAt g k .0) (mark-apart c k q) ∙ r .after k (omega arith) l;
   }
     where

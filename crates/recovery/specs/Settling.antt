@@ -10,7 +10,7 @@ use Rattle.spans.specs.Laws.{part-blank, part-put}
 use Rattle.flash.specs.Build.{slot0, slot1, scratch, Build, Flash, trailerSector}
 use Rattle.flash.specs.Operations.{Op, apply, runAll}
 use Rattle.trailer.specs.Trailer.{magicBytes, trailer, magicAt, okAt, markAt, magicOf, markBytes, isGood}
-use Rattle.plan.specs.Lists.{clear, progress, magicOps, okOps, settle}
+use Rattle.plan.specs.Lists.{eraseTrailer, progress, magicOps, okOps, linesThreeToSix}
 use Rattle.recovery.specs.All.{All, one, all-append, all-map}
 use Rattle.recovery.specs.Cuts.{runAll-append}
 use Rattle.recovery.specs.Windows.{Hidden, hidden-behind, hidden-erase}
@@ -29,17 +29,17 @@ line5 g p = okOps g slot0 p ++ (progress g 0 ∷ progress g 1 ∷ progress g 2 �
 
 -- lines 3 to 5
 unfoldable pub settling : Build → Bool → List Op
-settling g p = clear g slot1 ∷ clear g slot0 ∷ line5 g p
+settling g p = eraseTrailer g slot1 ∷ eraseTrailer g slot0 ∷ line5 g p
 
 pub settle-run : (g : Build) (p : Bool) (f f' : Flash) → wipeBoth g f ≡ wipeBoth g f'
-    → runAll g (settle g p) f ≡ runAll g (settle g p) f'
-unfolding settle runAll apply line5
-settle-run g p f f' e = ap (runAll g (line5 g p ++ (clear g scratch ∷ []))) e
+    → runAll g (linesThreeToSix g p) f ≡ runAll g (linesThreeToSix g p) f'
+unfolding linesThreeToSix runAll apply line5
+settle-run g p f f' e = ap (runAll g (line5 g p ++ (eraseTrailer g scratch ∷ []))) e
 
 pub settle-split : (g : Build) (p : Bool) (f : Flash)
-    → runAll g (settle g p) f ≡ apply g (clear g scratch) (runAll g (settling g p) f)
-unfolding settle settling line5 runAll
-settle-split g p f = runAll-append g (settling g p) (clear g scratch ∷ []) f
+    → runAll g (linesThreeToSix g p) f ≡ apply g (eraseTrailer g scratch) (runAll g (settling g p) f)
+unfolding linesThreeToSix settling line5 runAll
+settle-split g p f = runAll-append g (settling g p) (eraseTrailer g scratch ∷ []) f
 
 -- slot 0's trailer sector has good magic and c marks, and scratch's magic is not Good
 pub record Under (g : Build) (c : ℕ) (f : Flash) : Type 0 where
@@ -86,12 +86,12 @@ module _ {g : Build} (geo : Geo g) where
       × (part (trailer g slot0 (runAll g (settling g p) f)) (magicAt g .0) 16 ≡ magicBytes)
   unfolding settling line5 runAll apply trailer
   marked-settling p f s =
-      let f₂ : Flash = apply g (clear g slot0) (apply g (clear g slot1) f) in
+      let f₂ : Flash = apply g (eraseTrailer g slot0) (apply g (eraseTrailer g slot1) f) in
       let f₃ : Flash = runAll g (okOps g slot0 p) f₂ in
       let f₄ : Flash = apply g (progress g 0) f₃ in
       let f₅ : Flash = apply g (progress g 1) f₄ in
       let m₃ : Marked g 0 (trailer g slot0 f₃) =
-      rw (trailer-ok geo slot0 p f₂, trailer-clear geo slot0 (apply g (clear g slot1) f) s) (marked-ok p) in
+      rw (trailer-ok geo slot0 p f₂, trailer-clear geo slot0 (apply g (eraseTrailer g slot1) f) s) (marked-ok p) in
       rw (runAll-append g (okOps g slot0 p) (progress g 0 ∷ progress g 1 ∷ progress g 2 ∷ magicOps g slot0) f₂)
       (marked-magic (apply g (progress g 2) f₅) (omega (arith, three-marks))
       (marked-progress f₅ (omega (arith, three-marks))
@@ -99,14 +99,14 @@ module _ {g : Build} (geo : Geo g) where
       (marked-progress f₃ (omega (arith, three-marks)) m₃))))
 
   -- line 6 puts scratch out of the way
-  pub settled : (p : Bool) (f : Flash) → Sized g slot0 f → Sized g scratch f → Under g 3 (runAll g (settle g p) f)
+  pub settled : (p : Bool) (f : Flash) → Sized g slot0 f → Sized g scratch f → Under g 3 (runAll g (linesThreeToSix g p) f)
   unfolding apply trailer
   settled p f s0 s2 =
       let f₅ : Flash = runAll g (settling g p) f in
       rw (settle-split g p f) record {
         marked = marked-settling p f s0 .0;
         magic = marked-settling p f s0 .1;
-        idle = not-good-read geo (trailer g scratch (apply g (clear g scratch) f₅))
+        idle = not-good-read geo (trailer g scratch (apply g (eraseTrailer g scratch) f₅))
             (ap (λ (t : List ℕ). part t (g .sector - 1) 1) (trailer-clear geo scratch f₅ (sized-run g scratch (settling g p) f s2))
             ∙ part-blank (g .sector) (g .sector - 1) 1 (omega arith));
       }

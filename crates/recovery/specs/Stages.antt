@@ -7,8 +7,8 @@ use Prim.Native.Nat.{ℕ, suc}
 use Rattle.flash.specs.Build.{slot0, scratch, Build, Move, Flash}
 use Rattle.flash.specs.Operations.{Op, runAll}
 use Rattle.flash.specs.Harm.{Cut, here, later}
-use Rattle.trailer.specs.Trailer.{trailer, doneAt, markAt, magicOf, isGood}
-use Rattle.plan.specs.Lists.{clear, mark, progress, begin, settle, moveOps, dataOps}
+use Rattle.trailer.specs.Trailer.{trailer, copyDoneAt, markAt, magicOf, isGood}
+use Rattle.plan.specs.Lists.{eraseTrailer, mark, progress, linesOneTwo, linesThreeToSix, moveOps, dataOps}
 use Rattle.recovery.specs.Cuts.{cut-nil, runAll-append, cut-append}
 use Rattle.recovery.specs.Windows.{hidden-run, hidden-cut, wipe}
 use Rattle.recovery.specs.Places.{Geo, Sized, done-unit, mark-unit, clear-whole, mark-whole}
@@ -26,27 +26,27 @@ pub record BeginLike (g : Build) (f clean : Flash) : Type 0 where
 module _ {g : Build} (geo : Geo g) where
   unfoldable pub beginChunk : Bool → Chunk g
   beginChunk p = record {
-    ops = begin g p;
+    ops = linesOneTwo g p;
     Like = BeginLike g;
     stays = λ f clean f' l k. record {
       alike = hidden-cut (hidden-begin geo p) k ∙ l .alike;
       quiet = cut-begin geo p (l .sized) (l .quiet) k;
-      sized = sized-cut g scratch (begin g p) f f' k (l .sized);
+      sized = sized-cut g scratch (linesOneTwo g p) f f' k (l .sized);
     };
     works = λ f clean l. begin-run g p f clean (l .alike);
   }
 
   -- lines 3 to 6: cut, they leave anything in the slots' trailer sectors
   unfoldable pub settleChunk : Bool → Chunk g
-  unfolding settle settling line5
+  unfolding linesThreeToSix settling line5
   settleChunk p = record {
-    ops = settle g p;
+    ops = linesThreeToSix g p;
     Like = λ f clean. wipeBoth g f ≡ wipeBoth g clean;
-    stays = λ f clean f' l k. stays f f' (cut-append (settling g p) (clear g scratch ∷ []) k) ∙ l;
+    stays = λ f clean f' l k. stays f f' (cut-append (settling g p) (eraseTrailer g scratch ∷ []) k) ∙ l;
     works = settle-run g p;
   }
     where
-      stays : (f f' : Flash) → Cut g (settling g p) f f' ⊎ Cut g (clear g scratch ∷ []) (runAll g (settling g p) f) f'
+      stays : (f f' : Flash) → Cut g (settling g p) f f' ⊎ Cut g (eraseTrailer g scratch ∷ []) (runAll g (settling g p) f) f'
           → wipeBoth g f' ≡ wipeBoth g f
       stays f f' (inl k) = hidden-cut (hidden-settling geo p) k
       stays f f' (inr (here t)) = ap (wipeBoth g) (clear-whole geo scratch t) ∙ hidden-run (hidden-settling geo p) f
@@ -74,14 +74,14 @@ module _ {g : Build} (geo : Geo g) where
   -- copy done: it is written, or it is not
   unfoldable pub doneChunk : Chunk g
   doneChunk = record {
-    ops = mark g slot0 (doneAt g) 1 ∷ [];
+    ops = mark g slot0 (copyDoneAt g) 1 ∷ [];
     Like = λ f clean. f ≡ clean;
     stays = λ f clean f' l k. stays f f' k ∙ l;
-    works = λ f clean l. ap (runAll g (mark g slot0 (doneAt g) 1 ∷ [])) l;
+    works = λ f clean l. ap (runAll g (mark g slot0 (copyDoneAt g) 1 ∷ [])) l;
   }
     where
-      stays : (f f' : Flash) → Cut g (mark g slot0 (doneAt g) 1 ∷ []) f f' → f' ≡ f
-      stays f f' (here t) = mark-whole geo slot0 (doneAt g) 1 (done-unit geo) t
+      stays : (f f' : Flash) → Cut g (mark g slot0 (copyDoneAt g) 1 ∷ []) f f' → f' ≡ f
+      stays f f' (here t) = mark-whole geo slot0 (copyDoneAt g) 1 (done-unit geo) t
       stays f f' (later k) = absurd (cut-nil k)
 
   unfoldable pub dataChunks : ℕ → List Move → List (Chunk g)

@@ -13,10 +13,10 @@ use Rattle.flash.specs.Geometry.{sectorNo}
 use Rattle.flash.specs.Build.{Area, slot0, slot1, scratch, Build, Flash, dataSectors, valid}
 use Rattle.flash.specs.Operations.{erase, apply, runAll}
 use Rattle.trailer.specs.declared.Mark.{Mark}
-use Rattle.trailer.specs.Trailer.{trailer, okAt, doneAt, markAt, magicOf, markOf, isGood, noMagic, isUnset, hasValue, written, legal}
+use Rattle.trailer.specs.Trailer.{trailer, okAt, copyDoneAt, markAt, magicOf, markOf, isGood, noMagic, isUnset, hasValue, written, legal}
 use Rattle.plan.specs.declared.Course.{Course}
-use Rattle.plan.specs.declared.Course.the-variants.{Damage, Settle, Resume, Test, Permanent, Revert, Clear, Nothing}
-use Rattle.plan.specs.Lists.{clear, okOps, dataOps, erases, clearOut}
+use Rattle.plan.specs.declared.Course.the-variants.{Damage, FromLineThree, Resume, Test, Permanent, Revert, Clear, Nothing}
+use Rattle.plan.specs.Lists.{eraseTrailer, okOps, dataOps, erases, clearOut}
 use Rattle.plan.specs.Decision.{stepA, continue, stepB, stateC, asks, judged, decide, listOf, okUnset, inForce}
 use Rattle.recovery.specs.All.{all-drop}
 use Rattle.recovery.specs.Places.{Geo, Sized}
@@ -31,13 +31,13 @@ pub record Resumable (g : Build) (t : List ℕ) (c : ℕ) : Type 0 where
   pub low : 3 ≤ c
   pub high : c ≤ 3 + length (g .moves)
   pub run : legal g t c 0 (3 * g .sectors) ≡ true
-  pub unfinished : isUnset (markOf g t (doneAt g)) ≡ true
+  pub unfinished : isUnset (markOf g t (copyDoneAt g)) ≡ true
 
 -- only B resumes
 resumed-judged : (accepted : Bool) (course : Course) {c : ℕ} → judged accepted course ≡ Resume c → course ≡ Resume c
 unfolding judged
 resumed-judged accepted Damage h = h
-resumed-judged accepted (Settle p) h = h
+resumed-judged accepted (FromLineThree p) h = h
 resumed-judged accepted (Resume c) h = h
 resumed-judged true Test h = h
 resumed-judged false Test h = absurd (let z : _≡_ {A = ℕ} 0 1 = cc in omega arith)
@@ -52,7 +52,7 @@ not-by-A : (g : Build) (t : List ℕ) {c : ℕ} → stepA g t ≡ Resume c → �
 unfolding stepA
 not-by-A g t {c} = go (isUnset (markOf g t (okAt g))) (hasValue 1 (markOf g t (okAt g)))
   where
-    go : (a b : Bool) → pick a (Settle false) (pick b (Settle true) Damage) ≡ Resume c → ⊥
+    go : (a b : Bool) → pick a (FromLineThree false) (pick b (FromLineThree true) Damage) ≡ Resume c → ⊥
     go true b h = let z : _≡_ {A = ℕ} 0 1 = cc in omega arith
     go false true h = let z : _≡_ {A = ℕ} 0 1 = cc in omega arith
     go false false h = let z : _≡_ {A = ℕ} 0 1 = cc in omega arith
@@ -62,7 +62,7 @@ unfolding stateC
 not-by-C g t0 t1 {c} =
     let ok1 : Mark = markOf g t1 (okAt g) in
     go (isGood (magicOf g t1) && isUnset ok1) (isGood (magicOf g t1) && hasValue 1 ok1)
-    (isGood (magicOf g t0) && (isUnset (markOf g t0 (okAt g)) && (hasValue 1 (markOf g t0 (doneAt g)) && noMagic (magicOf g t1))))
+    (isGood (magicOf g t0) && (isUnset (markOf g t0 (okAt g)) && (hasValue 1 (markOf g t0 (copyDoneAt g)) && noMagic (magicOf g t1))))
   where
     go : (a b d : Bool) → pick a Test (pick b Permanent (pick d Revert Nothing)) ≡ Resume c → ⊥
     go true b d h = let z : _≡_ {A = ℕ} 0 1 = cc in omega arith
@@ -71,7 +71,7 @@ not-by-C g t0 t1 {c} =
     go false false false h = let z : _≡_ {A = ℕ} 0 1 = cc in omega arith
 
 module _ (g : Build) (t0 : List ℕ) (other : Course) {c : ℕ} (never : other ≡ Resume c → ⊥) where
-  by-marks : (k : ℕ) → isUnset (markOf g t0 (doneAt g)) ≡ true → continue g t0 k other ≡ Resume c → Resumable g t0 c
+  by-marks : (k : ℕ) → isUnset (markOf g t0 (copyDoneAt g)) ≡ true → continue g t0 k other ≡ Resume c → Resumable g t0 c
   unfolding continue
   by-marks k u = go (legal g t0 k 0 (3 * g .sectors)) (eqb k 0) (leb 3 k) (leb k (3 + length (g .moves))) refl refl refl
     where
@@ -88,12 +88,12 @@ module _ (g : Build) (t0 : List ℕ) (other : Course) {c : ℕ} (never : other �
 
   by-B : stepB g t0 other ≡ Resume c → Resumable g t0 c
   unfolding stepB
-  by-B = go (isGood (magicOf g t0)) (isUnset (markOf g t0 (doneAt g))) refl
+  by-B = go (isGood (magicOf g t0)) (isUnset (markOf g t0 (copyDoneAt g))) refl
     where
       k : ℕ
       k = written g t0 0 (3 * g .sectors)
 
-      go : (a b : Bool) → isUnset (markOf g t0 (doneAt g)) ≡ b → pick (a && b) (continue g t0 k other) other ≡ Resume c
+      go : (a b : Bool) → isUnset (markOf g t0 (copyDoneAt g)) ≡ b → pick (a && b) (continue g t0 k other) other ≡ Resume c
           → Resumable g t0 c
       go true true e h = by-marks k e h
       go true false e h = absurd (never h)
@@ -157,8 +157,8 @@ fresh-clear-out {g} geo f =
     let m : ℕ = dataSectors g slot1 in
     let p : Bool = okUnset g f in
     let f₁ : Flash = runAll g (erases slot1 0 m) f in
-    fresh-append (erases slot1 0 m) (okOps g slot0 p ++ (clear g slot1 ∷ [])) (fresh-erases g slot1 0 m f)
-    (fresh-append (okOps g slot0 p) (clear g slot1 ∷ [])
+    fresh-append (erases slot1 0 m) (okOps g slot0 p ++ (eraseTrailer g slot1 ∷ [])) (fresh-erases g slot1 0 m f)
+    (fresh-append (okOps g slot0 p) (eraseTrailer g slot1 ∷ [])
     (fresh-ok geo slot0 p f₁ (λ q. rw (erases-slot1 g 0 m f) (unset-blank g (trailer g slot0 f) (okAt g) q))) (erasing end))
 
 -- ---- the list in force
@@ -172,7 +172,7 @@ module _ {g : Build} (geo : Geo g) (sound : Sound g) (f : Flash) (z : (a : Area)
       fresh-data geo (drop (c - 3) (g .moves)) c f (all-drop (c - 3) (sound .proper))
       (simp length-drop (omega (arith, sound .places))) z
       (record {
-        done = unset-blank g t (doneAt g) (r .unfinished);
+        done = unset-blank g t (copyDoneAt g) (r .unfinished);
         after = λ k a b. legal-free g t c 0 (3 * g .sectors) (r .run) k a (omega arith) (omega arith);
       })
 
@@ -180,7 +180,7 @@ module _ {g : Build} (geo : Geo g) (sound : Sound g) (f : Flash) (z : (a : Area)
       → Fresh g (listOf g (okUnset g f) course) f
   unfolding listOf
   fresh-course Damage h = end
-  fresh-course (Settle p) h = fresh-rest geo sound p f z
+  fresh-course (FromLineThree p) h = fresh-rest geo sound p f z
   fresh-course (Resume c) h = fresh-resumed c (h c refl)
   fresh-course Test h = fresh-exchange geo sound false f z
   fresh-course Permanent h = fresh-exchange geo sound true f z

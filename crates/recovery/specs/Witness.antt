@@ -14,7 +14,7 @@ use Rattle.flash.specs.Operations.{erase, store, run}
 use Rattle.flash.specs.Harm.{half-erased}
 use Rattle.trailer.specs.Trailer.{magicBytes, trailer, magicOf, markOf, isGood, noMagic, isUnset, hasValue, written, legal}
 use Rattle.plan.specs.declared.Course.the-variants.{Test, Permanent, Revert}
-use Rattle.plan.specs.Lists.{writes, magicOps, okOps, begin, settle, copies, moveOps, dataOps, exchange}
+use Rattle.plan.specs.Lists.{writes, magicOps, okOps, linesOneTwo, linesThreeToSix, copies, moveOps, dataOps, exchange}
 use Rattle.plan.specs.Decision.{stepA, continue, stepB, stateC, asks, judged, decide, listOf, inForce}
 use Rattle.recovery.specs.Cuts.{at-cut}
 use Rattle.recovery.specs.Statement.{Due, by-test, by-permanent, by-revert, Failures, never, again}
@@ -54,7 +54,7 @@ unfolding for-test ran accepts flash slot small base fits asked every valid inFo
 in-force = refl
 
 next-erase : drop 39 (exchange small false) ≡ erase scratch (sectorNo 0) ∷ drop 40 (exchange small false)
-unfolding small base writes magicOps okOps begin settle copies moveOps dataOps exchange threeMoves allMoves magicBytes
+unfolding small base writes magicOps okOps linesOneTwo linesThreeToSix copies moveOps dataOps exchange threeMoves allMoves magicBytes
 next-erase = refl
 
 pub harm-comes : Failures small (inForce accepts small) for-test harmed

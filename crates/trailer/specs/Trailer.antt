@@ -28,8 +28,8 @@ abbrev pub okAt : Build → Offset
 okAt g = byteAt (g .sector - 24)
 
 -- "32 from the end"
-abbrev pub doneAt : Build → Offset
-doneAt g = byteAt (g .sector - 32)
+abbrev pub copyDoneAt : Build → Offset
+copyDoneAt g = byteAt (g .sector - 32)
 
 -- "384w before that"; "Mark j (0 to 2) of sector i stands (127 − i)·3w + j·w into the progress marks"
 unfoldable pub markStands : Build → Sector → ℕ → Offset

@@ -2,7 +2,7 @@
 ghost use mathlib.Core.Path.{_≡_};
 ghost use Rattle.flash.specs.Base.{build};
 ghost use Rattle.flash.specs.Small.{Small};
-ghost use Rattle.trailer.specs.Trailer.{okAt, doneAt, magicOf, isGood, noMagic, markOf, isUnset, hasValue};
+ghost use Rattle.trailer.specs.Trailer.{okAt, copyDoneAt, magicOf, isGood, noMagic, markOf, isUnset, hasValue};
 use crate::Mark;
 use crate::has_value;
 use crate::is_good;
@@ -51,21 +51,21 @@ pub fn ok_set(g: Geometry, t: &[u8]) -> bool
 
 fn done_mark(g: Geometry, t: &[u8]) -> Mark
     requires { ⌜ Small g ⌝ }
-    ensures { λ r. ⌜ r ≡ markOf (build g) (now (t .entry)) (doneAt (build g)) ⌝ }
+    ensures { λ r. ⌜ r ≡ markOf (build g) (now (t .entry)) (copyDoneAt (build g)) ⌝ }
 {
     mark_in(g, t, done_place(g))
 }
 
 pub fn done_unset(g: Geometry, t: &[u8]) -> bool
     requires { ⌜ Small g ⌝ }
-    ensures { λ r. ⌜ r ≡ isUnset (markOf (build g) (now (t .entry)) (doneAt (build g))) ⌝ }
+    ensures { λ r. ⌜ r ≡ isUnset (markOf (build g) (now (t .entry)) (copyDoneAt (build g))) ⌝ }
 {
     is_unset(done_mark(g, t))
 }
 
 pub fn done_set(g: Geometry, t: &[u8]) -> bool
     requires { ⌜ Small g ⌝ }
-    ensures { λ r. ⌜ r ≡ hasValue 1 (markOf (build g) (now (t .entry)) (doneAt (build g))) ⌝ }
+    ensures { λ r. ⌜ r ≡ hasValue 1 (markOf (build g) (now (t .entry)) (copyDoneAt (build g))) ⌝ }
 {
     has_value(1, done_mark(g, t))
 }

@@ -3,7 +3,7 @@ ghost use mathlib.Core.Path.{_≡_};
 ghost use Prim.Native.Nat.{_*_, _<_};
 ghost use Rattle.flash.specs.Base.{build};
 ghost use Rattle.flash.specs.Small.{Small};
-ghost use Rattle.trailer.specs.Trailer.{magicAt, okAt, doneAt, markAt};
+ghost use Rattle.trailer.specs.Trailer.{magicAt, okAt, copyDoneAt, markAt};
 use flash::Geometry;
 use flash::Offset;
 
@@ -23,7 +23,7 @@ pub fn ok_place(g: Geometry) -> Offset
 
 pub fn done_place(g: Geometry) -> Offset
     requires { ⌜ Small g ⌝ }
-    ensures { λ r. ⌜ r ≡ doneAt (build g) ⌝ }
+    ensures { λ r. ⌜ r ≡ copyDoneAt (build g) ⌝ }
 {
     Offset(g.sector - 32)
 }

@@ -3,7 +3,7 @@ use Prim.Native.Nat.{_-_}
 use Rattle.flash.specs.Base.{allMoves, build}
 use Rattle.flash.specs.Operations.{steps}
 use Rattle.flash.specs.OperationLaws.{steps-append}
-use Rattle.plan.specs.Lists.{settle, dataOps}
+use Rattle.plan.specs.Lists.{linesThreeToSix, dataOps}
 use borrow.Author.Needs.{needs}
 use Rattle.carry.proofs.areas.from_line_three.Statement.{statement}
 use Rattle.carry.proofs.areas.from_line_three.Tie as tie
@@ -28,7 +28,7 @@ returns c =
     c .before .before .before .before .before .before .data-exchange .ensures
     ∙ ap (steps (build (c .before .before .before .before .before .before .before .before .before .before .before .before .before .before .before .before .before .before .before .before .before .before .before .args .g)) (dataOps (build (c .before .before .before .before .before .before .before .before .before .before .before .before .before .before .before .before .before .before .before .before .before .before .before .args .g)) 3 (allMoves (c .before .before .before .before .before .before .before .before .before .before .before .before .before .before .before .before .before .before .before .before .before .before .before .args .g .sectors - 1)))) (c .before .before .before .before .before .before .before .before .before .before .before .before .before .before .before .before .lines-three-to-six .ensures)
     ∙ sym (steps-append (build
-    (c .before .before .before .before .before .before .before .before .before .before .before .before .before .before .before .before .before .before .before .before .before .before .before .args .g)) (settle (build (c .before .before .before .before .before .before .before .before .before .before .before .before .before .before .before .before .before .before .before .before .before .before .before .args .g)) (c .before .before .before .before .before .before .before .before .before .before .before .before .before .before .before .before .before .before .before .before .before .before .before .args .lasting)) (dataOps (build (c .before .before .before .before .before .before .before .before .before .before .before .before .before .before .before .before .before .before .before .before .before .before .before .args .g)) 3 (allMoves (c .before .before .before .before .before .before .before .before .before .before .before .before .before .before .before .before .before .before .before .before .before .before .before .args .g .sectors - 1))) _)
+    (c .before .before .before .before .before .before .before .before .before .before .before .before .before .before .before .before .before .before .before .before .before .before .before .args .g)) (linesThreeToSix (build (c .before .before .before .before .before .before .before .before .before .before .before .before .before .before .before .before .before .before .before .before .before .before .before .args .g)) (c .before .before .before .before .before .before .before .before .before .before .before .before .before .before .before .before .before .before .before .before .before .before .before .args .lasting)) (dataOps (build (c .before .before .before .before .before .before .before .before .before .before .before .before .before .before .before .before .before .before .before .before .before .before .before .args .g)) 3 (allMoves (c .before .before .before .before .before .before .before .before .before .before .before .before .before .before .before .before .before .before .before .before .before .before .before .args .g .sectors - 1))) _)
 
 pub from-line-three-spec : {M : Type 1} → statement M
 from-line-three-spec =

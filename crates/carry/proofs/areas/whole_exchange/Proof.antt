@@ -4,7 +4,7 @@ use Prim.Native.Nat.{_-_}
 use Rattle.flash.specs.Base.{allMoves, base, build}
 use Rattle.flash.specs.Operations.{Op, steps}
 use Rattle.flash.specs.OperationLaws.{steps-append}
-use Rattle.plan.specs.Lists.{begin, settle, dataOps, exchange}
+use Rattle.plan.specs.Lists.{linesOneTwo, linesThreeToSix, dataOps, exchange}
 use Rattle.carry.specs.Areas.{begun}
 use borrow.Author.Needs.{needs}
 use Rattle.carry.proofs.areas.whole_exchange.Statement.{statement}
@@ -28,12 +28,12 @@ same-length-3 c = search needs
 returns : tie.Need-returns
 unfolding exchange base
 returns c =
-    let rest : List Op = settle (build
+    let rest : List Op = linesThreeToSix (build
     (c .before .before .before .before .before .before .before .before .before .before .before .before .before .before .before .before .before .args .g)) (c .before .before .before .before .before .before .before .before .before .before .before .before .before .before .before .before .before .args .lasting) ++ dataOps (build (c .before .before .before .before .before .before .before .before .before .before .before .before .before .before .before .before .before .args .g)) 3 (allMoves (c .before .before .before .before .before .before .before .before .before .before .before .before .before .before .before .before .before .args .g .sectors - 1)) in
     c .before .before .before .before .before .before .from-line-three .ensures
     ∙ ap (steps (build (c .before .before .before .before .before .before .before .before .before .before .before .before .before .before .before .before .before .args .g)) rest) (begun (c .before .before .before .before .before .before .before .before .before .before .before .before .before .before .before .before .before .args .g) (c .before .before .before .before .before .before .before .before .before .before .before .before .before .before .before .before .before .args .lasting) (c .before .before .before .before .before .before .before .before .before .before .before .before .before .before .before .before .before .args .slot0 .now) (c .before .before .before .before .before .before .before .before .before .before .before .before .before .before .before .before .before .args .slot1 .now) (c .before .before .before .before .before .before .before .before .before .before .before .before .before .before .before .before .before .args .scratch .now) (c .before .before .before .before .before .before .before .before .before .before .before .before .before .before .before .before .before .args .run) _ _ (c .before .before .before .before .before .before .before .before .before .before .before .before .lines-one-two .ensures))
     ∙ sym (steps-append (build
-    (c .before .before .before .before .before .before .before .before .before .before .before .before .before .before .before .before .before .args .g)) (begin (build (c .before .before .before .before .before .before .before .before .before .before .before .before .before .before .before .before .before .args .g)) (c .before .before .before .before .before .before .before .before .before .before .before .before .before .before .before .before .before .args .lasting)) rest _)
+    (c .before .before .before .before .before .before .before .before .before .before .before .before .before .before .before .before .before .args .g)) (linesOneTwo (build (c .before .before .before .before .before .before .before .before .before .before .before .before .before .before .before .before .before .args .g)) (c .before .before .before .before .before .before .before .before .before .before .before .before .before .before .before .before .before .args .lasting)) rest _)
 
 pub whole-exchange-spec : {M : Type 1} → statement M
 whole-exchange-spec =

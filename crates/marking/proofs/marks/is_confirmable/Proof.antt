@@ -6,7 +6,7 @@ use lib.ListN.{drop}
 use Rattle.flash.specs.Geometry.{startOf}
 use Rattle.flash.specs.Build.{Area, trailerSector}
 use Rattle.flash.specs.Base.{base, build}
-use Rattle.trailer.specs.Trailer.{trailer, okAt, doneAt, magicOf, isGood, markOf, isUnset, hasValue}
+use Rattle.trailer.specs.Trailer.{trailer, okAt, copyDoneAt, magicOf, isGood, markOf, isUnset, hasValue}
 use Rattle.marking.specs.Marking.{confirmable}
 use borrow.Author.Needs.{needs}
 use Rattle.marking.proofs.marks.is_confirmable.Statement.{statement}
@@ -35,9 +35,9 @@ returns c =
     let m : isGood (magicOf (build (c .before .before .before .before .before .before .before .args .g)) T) ≡ true = sym
     (c .before .before .before .before .magic-good .ensures ∙ ap (λ (t : List ℕ). isGood (magicOf (build
     (c .before .before .before .before .before .before .before .args .g)) t)) te) ∙ c .before .before .before .if1 .taken in
-    let d : hasValue 1 (markOf (build (c .before .before .before .before .before .before .before .args .g)) T (doneAt (build
+    let d : hasValue 1 (markOf (build (c .before .before .before .before .before .before .before .args .g)) T (copyDoneAt (build
     (c .before .before .before .before .before .before .before .args .g)))) ≡ true = sym (c .before .before .done-set .ensures ∙ ap
-    (λ (t : List ℕ). hasValue 1 (markOf (build (c .before .before .before .before .before .before .before .args .g)) t (doneAt
+    (λ (t : List ℕ). hasValue 1 (markOf (build (c .before .before .before .before .before .before .before .args .g)) t (copyDoneAt
     (build (c .before .before .before .before .before .before .before .args .g))))) te) ∙ c .before .if2 .taken in
     c .ok-unset .ensures ∙ ap (λ (t : List ℕ). isUnset (markOf (build
     (c .before .before .before .before .before .before .before .args .g)) t (okAt (build
@@ -55,9 +55,9 @@ returns-2 c =
     let m : isGood (magicOf (build (c .before .before .before .before .before .before .args .g)) T) ≡ true = sym
     (c .before .before .before .magic-good .ensures ∙ ap (λ (t : List ℕ). isGood (magicOf (build
     (c .before .before .before .before .before .before .args .g)) t)) te) ∙ c .before .before .if1 .taken in
-    let d : hasValue 1 (markOf (build (c .before .before .before .before .before .before .args .g)) T (doneAt (build
+    let d : hasValue 1 (markOf (build (c .before .before .before .before .before .before .args .g)) T (copyDoneAt (build
     (c .before .before .before .before .before .before .args .g)))) ≡ false = sym (c .before .done-set .ensures ∙ ap (λ
-    (t : List ℕ). hasValue 1 (markOf (build (c .before .before .before .before .before .before .args .g)) t (doneAt (build
+    (t : List ℕ). hasValue 1 (markOf (build (c .before .before .before .before .before .before .args .g)) t (copyDoneAt (build
     (c .before .before .before .before .before .before .args .g))))) te) ∙ c .if2 .left in
     ap₂ (λ (a b : Bool). a && (b && isUnset (markOf (build (c .before .before .before .before .before .before .args .g)) T (okAt
     (build (c .before .before .before .before .before .before .args .g)))))) (sym m) (sym d)
@@ -70,7 +70,7 @@ returns-3 c =
     let te : c .before .before .slot-trailer .result .now ≡ T = c .before .before .slot-trailer .ensures in
     let m : isGood (magicOf (build (c .before .before .before .before .args .g)) T) ≡ false = sym (c .before .magic-good .ensures
     ∙ ap (λ (t : List ℕ). isGood (magicOf (build (c .before .before .before .before .args .g)) t)) te) ∙ c .if1 .left in
-    ap (λ (a : Bool). a && (hasValue 1 (markOf (build (c .before .before .before .before .args .g)) T (doneAt (build
+    ap (λ (a : Bool). a && (hasValue 1 (markOf (build (c .before .before .before .before .args .g)) T (copyDoneAt (build
     (c .before .before .before .before .args .g)))) && isUnset (markOf (build (c .before .before .before .before .args .g)) T (okAt
     (build (c .before .before .before .before .args .g)))))) (sym m)
 
