@@ -10,7 +10,7 @@ use lib.Seq.{drop-drop, take-append-le}
 use Rattle.spans.specs.Runs.{drop-take}
 use Rattle.spans.specs.Words.{words, bytesOf}
 use Rattle.spans.specs.WordLaws.{words-take}
-use Rattle.sha256.specs.Fips.{Eight, M, zeros, pad, H₀, compress, hash}
+use Rattle.fips.specs.Fips.{Eight, M, zeros, pad, H₀, compress, hash}
 
 -- one more block
 pub hash-next : (H : Eight) (p : List ℕ) (i : ℕ) (v r : Eight) → v ≡ hash H p i

@@ -1,7 +1,5 @@
-pub mod Fips
-pub mod Grown
+-- what SHA-256 is, for those who use the digest
+pub use Rattle.fips.specs.Fips
+pub use Rattle.fips.specs.Laws
 pub mod Hashes
-pub mod Laws
-pub mod Padding
 pub mod Results
-pub mod Turns

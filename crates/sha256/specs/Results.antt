@@ -8,8 +8,8 @@ use Rattle.spans.specs.Laws.{put-all}
 use Rattle.spans.specs.Runs.{put-on}
 use Rattle.spans.specs.Words.{bytesOf}
 use Rattle.spans.specs.WordLaws.{length-bytesOf}
-use Rattle.sha256.specs.Fips.{Eight, result}
-use Rattle.sha256.specs.Laws.{length-result}
+use Rattle.fips.specs.Fips.{Eight, result}
+use Rattle.fips.specs.Laws.{length-result}
 
 abbrev pub four : ℕ → ℕ → ℕ → ℕ → List ℕ
 four a b c d = bytesOf 4 a ++ bytesOf 4 b ++ bytesOf 4 c ++ bytesOf 4 d

@@ -1,35 +1,19 @@
 // Blocks of 64 bytes: 5.2.1, and 6.2.2 block by block.
 ghost use mathlib.Core.Path.{_≡_};
 ghost use Prim.Native.Nat.{_+_, _*_, _≤_};
-ghost use lib.ListN.{length, take, drop};
+ghost use lib.ListN.{length, drop};
 ghost use Rattle.spans.specs.Words.{words};
-ghost use Rattle.sha256.specs.Fips.{compress, hash};
-ghost use Rattle.sha256.specs.Turns.{eight};
-use super::rounds;
-use super::rounds::Work;
-use super::schedule;
-use super::words;
-
-// The sixteen words of the block at at.
-fn load(bytes: &[u8], at: usize, w: &mut [u32; 64])
-    requires { ⌜ (at + 64 ≤ length (now bytes)) × (length (now w) ≡ 64) ⌝ }
-    ensures { λ _. ⌜ (take 16 (now (w .exit)) ≡ words 4 16 (drop at (now (bytes .entry)))) × (length (now (w .exit)) ≡ 64) ⌝ }
-{
-    let mut i = 0;
-    while i < 16 {
-        w[i] = words::word(bytes, at + 4 * i);
-        i += 1;
-    }
-}
+ghost use Rattle.fips.specs.Fips.{compress, hash};
+ghost use Rattle.turn.specs.Variables.{eight};
+use turn::Work;
 
 // The hash value after the block at at. The schedule is made in w, whose words may be any.
 fn block(h: Work, bytes: &[u8], at: usize, w: &mut [u32; 64]) -> Work
     requires { ⌜ (at + 64 ≤ length (now bytes)) × (length (now w) ≡ 64) ⌝ }
     ensures { λ r. ⌜ (eight r ≡ compress (eight h) (words 4 16 (drop at (now (bytes .entry))))) × (length (now (w .exit)) ≡ 64) ⌝ }
 {
-    load(bytes, at, w);
-    schedule::extend(w);
-    rounds::compress(h, w)
+    schedule::of_block(bytes, at, w);
+    compress::next_hash(h, w)
 }
 
 // The hash value after the first count blocks.

@@ -1,7 +1,7 @@
 use Prim.Native.Nat.{_/_}
 use native.Mathlib.Omega.{arith}
 use lib.ListN.{length}
-use Rattle.sha256.specs.Fips.{sha256}
+use Rattle.fips.specs.Fips.{sha256}
 use Rattle.sha256.specs.Hashes.{hash-pad}
 use borrow.Author.Needs.{needs}
 use Rattle.sha256.proofs.digest.Statement.{statement}

@@ -2,9 +2,9 @@ use mathlib.Core.Path.{_≡_, refl}
 use Prim.Native.Nat.{_-_, _≤_}
 use native.Mathlib.Omega.{arith}
 use lib.ListN.{length}
-use Rattle.sha256.specs.Fips.{hash}
+use Rattle.fips.specs.Fips.{hash}
 use Rattle.sha256.specs.Hashes.{hash-next}
-use Rattle.sha256.specs.Turns.{eight}
+use Rattle.turn.specs.Variables.{eight}
 use borrow.Author.Needs.{needs}
 use Rattle.sha256.proofs.blocks.absorb.Statement.{statement}
 use Rattle.sha256.proofs.blocks.absorb.Tie as tie

@@ -1,0 +1,40 @@
+use Rattle.padding.specs.Padding.{put-length}
+use borrow.Author.Needs.{needs}
+use Rattle.padding.proofs.put_length.Statement.{statement}
+use Rattle.padding.proofs.put_length.Tie as tie
+
+half-requires : tie.Need-half-requires
+half-requires c κs = search needs
+
+put-word-requires : tie.Need-put-word-requires
+put-word-requires c κs = search needs
+
+add-put-word : tie.Need-add-put-word
+add-put-word c = search needs
+
+half-requires-2 : tie.Need-half-requires-2
+half-requires-2 c κs = search needs
+
+put-word-requires-2 : tie.Need-put-word-requires-2
+put-word-requires-2 c κs = search needs
+
+same-length : tie.Need-same-length
+same-length c = search needs
+
+returns : tie.Need-returns
+returns c =
+    let h = c .before .before .before .before .before .before .before .before in
+    let a = h .before .before .before .args in
+    cc (put-length (a .area .now) (a .at) (a .size) _ _ (h .half .ensures) (c .before .before .before .half2 .ensures))
+
+pub put-length-spec : {M : Type 1} → statement M
+put-length-spec =
+    tie.close
+    (tie.spec
+    half-requires
+    put-word-requires
+    add-put-word
+    half-requires-2
+    put-word-requires-2
+    same-length
+    returns)

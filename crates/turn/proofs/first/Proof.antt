@@ -1,0 +1,39 @@
+use Rattle.turn.specs.Variables.{eight}
+use Rattle.fips.specs.Fips.{T₁}
+use borrow.Author.Needs.{needs}
+use Rattle.turn.proofs.first.Statement.{statement}
+use Rattle.turn.proofs.first.Tie as tie
+
+big1-requires : tie.Need-big1-requires
+big1-requires c κs = search needs
+
+wrapping-add-u32-requires : tie.Need-wrapping-add-u32-requires
+wrapping-add-u32-requires c κs = search needs
+
+ch-requires : tie.Need-ch-requires
+ch-requires c κs = search needs
+
+wrapping-add-u32-requires-2 : tie.Need-wrapping-add-u32-requires-2
+wrapping-add-u32-requires-2 c κs = search needs
+
+wrapping-add-u32-requires-3 : tie.Need-wrapping-add-u32-requires-3
+wrapping-add-u32-requires-3 c κs = search needs
+
+wrapping-add-u32-requires-4 : tie.Need-wrapping-add-u32-requires-4
+wrapping-add-u32-requires-4 c κs = search needs
+
+returns : tie.Need-returns
+unfolding T₁ eight
+returns c = cc
+
+pub first-spec : {M : Type 1} → statement M
+first-spec =
+    tie.close
+    (tie.spec
+    big1-requires
+    wrapping-add-u32-requires
+    ch-requires
+    wrapping-add-u32-requires-2
+    wrapping-add-u32-requires-3
+    wrapping-add-u32-requires-4
+    returns)
