@@ -12,7 +12,7 @@ use Rattle.plan.specs.declared.Course.the-variants.{Damage, FromLineThree, Resu
 use Rattle.plan.specs.declared.Done.{Done}
 use Rattle.plan.specs.Asked.{flashOf}
 use Rattle.plan.specs.Decision.{doneOf, foundOf}
-use Rattle.carry.specs.Areas.{state}
+use Rattle.moves.specs.Areas.{state}
 use Rattle.answers.specs.declared.Refusal.{Refusal}
 use Rattle.answers.specs.declared.Outcome.{Outcome}
 use Rattle.answers.specs.declared.Answer.{Answer}

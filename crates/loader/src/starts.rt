@@ -123,7 +123,7 @@ fn take_course(
         left: allowance,
         end: End::Going,
     };
-    let run = carry::courses::carry_out(g, course, slot0, slot1, scratch, all);
+    let run = carry::carry_out(g, course, slot0, slot1, scratch, all);
     let end = run.end;
     Answer {
         done: plan::done_of(course),

@@ -17,8 +17,8 @@ use Rattle.plan.specs.Lengths.{one-if, length-ok, length-magic}
 use Rattle.trailer.specs.Trailer.{trailer}
 use Rattle.plan.specs.declared.Course.{Course}
 use Rattle.plan.specs.Asked.{flashOf}
-use Rattle.carry.specs.Areas.{state}
-use Rattle.carry.specs.InArea.{okIn, magicIn, steps-ok, steps-marked}
+use Rattle.moves.specs.Areas.{state}
+use Rattle.writes.specs.InArea.{okIn, magicIn, steps-ok, steps-marked}
 use Rattle.answers.specs.declared.Refusal.{Refusal}
 use Rattle.answers.specs.declared.Ending.{Ending}
 use Rattle.answers.specs.declared.Marked.{Marked}

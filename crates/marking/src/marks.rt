@@ -117,7 +117,7 @@ fn mark_free(g: Geometry, slot1: &mut [u8], permanent: bool) -> Marked
             left: all,
             end: End::Going,
         };
-        let run = carry::trailers::ok_and_magic(g, slot1, permanent, start);
+        let run = lines::ok_and_magic(g, slot1, permanent, start);
         written(all, run)
     } else {
         refuse(Refusal::Marks)
@@ -151,7 +151,7 @@ fn confirm_free(g: Geometry, slot0: &mut [u8]) -> Marked
             left: 1,
             end: End::Going,
         };
-        let run = carry::trailers::write_ok(g, slot0, Sector(g.sectors - 1), true, start);
+        let run = writes::write_ok(g, slot0, Sector(g.sectors - 1), true, start);
         written(1, run)
     } else {
         refuse(Refusal::Needs)

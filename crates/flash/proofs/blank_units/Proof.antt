@@ -46,9 +46,7 @@ returns c =
 returns-2 : tie.Need-returns-2
 returns-2 c =
     let given = c .before .before .before .before .before .before .args in
-    let l = blank-run-le (given .g)
-    (given .n) (given .u)
-    (given .area .now) in
+    let l = blank-run-le (given .g) (given .n) (given .u) (given .area .now) in
     (c .count-blank .ensures, omega (arith, l, c .count-blank .ensures))
 
 pub blank-units-spec : {M : Type 1} → statement M

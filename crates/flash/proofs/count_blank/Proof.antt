@@ -53,14 +53,10 @@ loop-again c =
 returns : tie.Need-returns Inv-loop μ-loop
 returns c =
     let given = c .before .before .before .before .before .before .args in
-    let e : erased (given .g) (unitNo
-    (given .u .0 + c .before .before .before .before .loop .k))
-    (given .area .now) ≡ false = sym (c .before .is-erased .ensures)
-    ∙ c .if1 .left in
-    sym (c .before .before .before .before .loop .inv .1 ∙ blank-run-stop
-    (given .g) (given .u)
-    (given .n) (c .before .before .before .before .loop .k)
-    (given .area .now) (omega arith) e)
+    let e : erased (given .g) (unitNo (given .u .0 + c .before .before .before .before .loop .k)) (given .area .now)
+    ≡ false = sym (c .before .is-erased .ensures) ∙ c .if1 .left in
+    sym (c .before .before .before .before .loop .inv .1 ∙ blank-run-stop (given .g) (given .u) (given .n)
+    (c .before .before .before .before .loop .k) (given .area .now) (omega arith) e)
 
 returns-2 : tie.Need-returns-2 Inv-loop μ-loop
 unfolding blankRun
@@ -68,8 +64,8 @@ returns-2 c =
     let given = c .before .before .before .args in
     let e : c .before .loop .k ≡ given .n = omega arith in
     let z : given .n - c .before .loop .k ≡ 0 = omega arith in
-    sym (c .before .loop .inv .1 ∙ ap (λ (m : ℕ). c .before .loop .k + blankRun (given .g) (unitNo
-    (given .u .0 + c .before .loop .k)) m (given .area .now)) z ∙ omega arith)
+    sym (c .before .loop .inv .1 ∙ ap (λ (m : ℕ). c .before .loop .k + blankRun (given .g)
+    (unitNo (given .u .0 + c .before .loop .k)) m (given .area .now)) z ∙ omega arith)
 
 pub count-blank-spec : {M : Type 1} → statement M
 count-blank-spec =

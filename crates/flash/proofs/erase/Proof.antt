@@ -10,9 +10,8 @@ enum-told c = search needs
 returns : tie.Need-returns
 returns c =
     let given = c .before .before .before .before .before .args in
-    sym (erase-late (given .g) (given .i)
-    (given .area .now) (given .run)
-    (c .before .before .enum-told .given .1) (c .if1 .taken))
+    sym (erase-late (given .g) (given .i) (given .area .now) (given .run) (c .before .before .enum-told .given .1)
+    (c .if1 .taken))
 
 start-of-requires : tie.Need-start-of-requires
 start-of-requires c κs = search needs
@@ -49,14 +48,12 @@ returns-2 c =
 returns-3 : tie.Need-returns-3
 returns-3 c =
     let given = c .before .before .before .args in
-    sym (erase-stopped (given .g) (given .i)
-    (given .area .now) (given .run) (c .enum-told2 .given .1))
+    sym (erase-stopped (given .g) (given .i) (given .area .now) (given .run) (c .enum-told2 .given .1))
 
 returns-4 : tie.Need-returns-4
 returns-4 c =
     let given = c .before .before .before .args in
-    sym (erase-unerased (given .g) (given .i)
-    (given .area .now) (given .run) (c .enum-told3 .given .1))
+    sym (erase-unerased (given .g) (given .i) (given .area .now) (given .run) (c .enum-told3 .given .1))
 
 pub erase-spec : {M : Type 1} → statement M
 erase-spec =

@@ -17,8 +17,8 @@ unfolding erased
 returns c =
     let given = c .before .before .before .args in
     c .all-blank .ensures
-    ∙ ap (λ (o : Offset). same (part (given .area .now) (o .0) (given .g .unit))
-    (blank (given .g .unit))) (c .before .place-of .ensures)
+    ∙ ap (λ (o : Offset). same (part (given .area .now) (o .0) (given .g .unit)) (blank (given .g .unit)))
+    (c .before .place-of .ensures)
 
 pub is-erased-spec : {M : Type 1} → statement M
 is-erased-spec = tie.close (tie.spec place-of-requires all-blank-requires returns)

@@ -23,25 +23,53 @@ returns-2 : tie.Need-returns-2
 unfolding sizesAsked every
 returns-2 c =
     let given = c .before .before .before .before .before .args in
-    rw (eq-eqb (given .g .sector % given .g .unit) 0 (c .before .before .before .if1 .left), lt-leb (384 * given .g .unit + 32) (given .g .sector) (c .if2 .taken))
+    rw (
+      eq-eqb (given .g .sector % given .g .unit) 0 (c .before .before .before .if1 .left),
+      lt-leb
+          (384 * given .g .unit + 32) (given .g .sector) (c .if2 .taken),
+    )
 
 returns-3 : tie.Need-returns-3
 unfolding sizesAsked every
 returns-3 c =
     let given = c .before .before .before .before .before .before .before .args in
-    rw (eq-eqb (given .g .sector % given .g .unit) 0 (c .before .before .before .before .before .if1 .left), le-leb (384 * given .g .unit + 32) (given .g .sector) (c .before .before .if2 .left), lt-leb (given .g .sector) 65536 (c .if3 .taken))
+    rw (
+      eq-eqb (given .g .sector % given .g .unit) 0 (c .before .before .before .before .before .if1 .left),
+      le-leb
+          (384 * given .g .unit + 32) (given .g .sector) (c .before .before .if2 .left),
+      lt-leb (given .g .sector) 65536
+          (c .if3 .taken),
+    )
 
 returns-4 : tie.Need-returns-4
 unfolding sizesAsked every
 returns-4 c =
     let given = c .before .before .before .before .before .before .before .before .before .args in
-    rw (eq-eqb (given .g .sector % given .g .unit) 0 (c .before .before .before .before .before .before .before .if1 .left), le-leb (384 * given .g .unit + 32) (given .g .sector) (c .before .before .before .before .if2 .left), le-leb (given .g .sector) 65536 (c .before .before .if3 .left), lt-leb 2 (given .g .sectors) (c .if4 .taken))
+    rw (
+      eq-eqb (given .g .sector % given .g .unit) 0
+          (c .before .before .before .before .before .before .before .if1 .left),
+      le-leb (384 * given .g .unit + 32)
+          (given .g .sector) (c .before .before .before .before .if2 .left),
+      le-leb (given .g .sector) 65536
+          (c .before .before .if3 .left),
+      lt-leb 2 (given .g .sectors) (c .if4 .taken),
+    )
 
 returns-5 : tie.Need-returns-5
 unfolding sizesAsked every
 returns-5 c =
     let given = c .before .before .before .before .before .before .before .before .before .before .args in
-    rw (eq-eqb (given .g .sector % given .g .unit) 0 (c .before .before .before .before .before .before .before .before .if1 .left), le-leb (384 * given .g .unit + 32) (given .g .sector) (c .before .before .before .before .before .if2 .left), le-leb (given .g .sector) 65536 (c .before .before .before .if3 .left), le-leb 2 (given .g .sectors) (c .before .if4 .left), and-true)
+    rw (
+      eq-eqb (given .g .sector % given .g .unit) 0
+          (c .before .before .before .before .before .before .before .before .if1 .left),
+      le-leb
+          (384 * given .g .unit + 32) (given .g .sector) (c .before .before .before .before .before .if2 .left),
+      le-leb
+          (given .g .sector) 65536 (c .before .before .before .if3 .left),
+      le-leb 2 (given .g .sectors)
+          (c .before .if4 .left),
+      and-true,
+    )
 
 pub sizes-taken-spec : {M : Type 1} → statement M
 sizes-taken-spec =

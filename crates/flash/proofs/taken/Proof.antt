@@ -20,23 +20,19 @@ lengths-taken-requires c κs =
 returns : tie.Need-returns
 returns c =
     let given = c .before .before .before .before .before .args in
-    let u : unitAsked (given .g .unit) ≡ true = sym
-    (c .before .before .before .before .unit-taken .ensures) ∙ c .before .before .before .if1 .taken in
-    let s : every (sizesAsked (given .g)) ≡ true = sym
-    (c .before .before .sizes-taken .ensures) ∙ c .before .if2 .taken in
-    c .lengths-taken .ensures ∙ sym (in-parts (given .g)
-    (given .l0) (given .l1)
-    (given .l2) ∙ rw (u, s))
+    let u : unitAsked (given .g .unit) ≡ true = sym (c .before .before .before .before .unit-taken .ensures) ∙
+    c .before .before .before .if1 .taken in
+    let s : every (sizesAsked (given .g)) ≡ true = sym (c .before .before .sizes-taken .ensures) ∙
+    c .before .if2 .taken in
+    c .lengths-taken .ensures ∙ sym (in-parts (given .g) (given .l0) (given .l1) (given .l2) ∙ rw (u, s))
 
 returns-2 : tie.Need-returns-2
 returns-2 c =
     let given = c .before .before .before .before .args in
-    let u : unitAsked (given .g .unit) ≡ true = sym
-    (c .before .before .before .unit-taken .ensures) ∙ c .before .before .if1 .taken in
-    let s : every (sizesAsked (given .g)) ≡ false = sym (c .before .sizes-taken .ensures)
-    ∙ c .if2 .left in
-    sym (in-parts (given .g) (given .l0)
-    (given .l1) (given .l2) ∙ rw (u, s))
+    let u : unitAsked (given .g .unit) ≡ true = sym (c .before .before .before .unit-taken .ensures) ∙
+    c .before .before .if1 .taken in
+    let s : every (sizesAsked (given .g)) ≡ false = sym (c .before .sizes-taken .ensures) ∙ c .if2 .left in
+    sym (in-parts (given .g) (given .l0) (given .l1) (given .l2) ∙ rw (u, s))
 
 returns-3 : tie.Need-returns-3
 returns-3 c =

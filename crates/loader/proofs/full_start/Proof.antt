@@ -20,11 +20,9 @@ taken-requires c κs = search needs
 
 start-taken-requires : tie.Need-start-taken-requires
 start-taken-requires c κs =
-    small-fits (c .before .before .before .before .before .before .before .before .args .g) (length
-    (c .before .before .before .before .before .before .before .before .args .slot0 .now)) (length
-    (c .before .before .before .before .before .before .before .before .args .slot1 .now)) (length
-    (c .before .before .before .before .before .before .before .before .args .scratch .now)) (sym
-    (c .before .before .before .before .taken .ensures) ∙ c .before .before .before .if1 .taken)
+    let given = c .before .before .before .before .before .before .before .before .args in
+    small-fits (given .g) (length (given .slot0 .now)) (length (given .slot1 .now)) (length (given .scratch .now))
+    (sym (c .before .before .before .before .taken .ensures) ∙ c .before .before .before .if1 .taken)
 
 refuse-requires : tie.Need-refuse-requires
 refuse-requires c κs = search needs
@@ -41,35 +39,30 @@ same-length-3 c = search needs
 returns : tie.Need-returns
 unfolding fullStart valid
 returns c =
-    let fit : fits (build
-    (c .before .before .before .before .before .before .before .before .before .before .before .before .before .before .before .args .g)) (length (c .before .before .before .before .before .before .before .before .before .before .before .before .before .before .before .args .slot0 .now)) (length (c .before .before .before .before .before .before .before .before .before .before .before .before .before .before .before .args .slot1 .now)) (length (c .before .before .before .before .before .before .before .before .before .before .before .before .before .before .before .args .scratch .now)) ≡ true = sym (c .before .before .before .before .before .before .before .before .before .before .before .taken .ensures) ∙ c .before .before .before .before .before .before .before .before .before .before .if1 .taken in
-    c .before .before .before .before .before .before .start-taken .ensures ∙ ap (λ (b : Bool). pick b (onCourse
-    (c .before .before .before .before .before .before .before .before .before .before .before .before .before .before .before .args .checked) (c .before .before .before .before .before .before .before .before .before .before .before .before .before .before .before .args .g) (c .before .before .before .before .before .before .before .before .before .before .before .before .before .before .before .args .allowance) (flashOf (c .before .before .before .before .before .before .before .before .before .before .before .before .before .before .before .args .slot0 .now) (c .before .before .before .before .before .before .before .before .before .before .before .before .before .before .before .args .slot1 .now) (c .before .before .before .before .before .before .before .before .before .before .before .before .before .before .before .args .scratch .now)) (decide accepted (build (c .before .before .before .before .before .before .before .before .before .before .before .before .before .before .before .args .g)) (flashOf (c .before .before .before .before .before .before .before .before .before .before .before .before .before .before .before .args .slot0 .now) (c .before .before .before .before .before .before .before .before .before .before .before .before .before .before .before .args .slot1 .now) (c .before .before .before .before .before .before .before .before .before .before .before .before .before .before .before .args .scratch .now)))) (refused Refusal.Geometry (flashOf (c .before .before .before .before .before .before .before .before .before .before .before .before .before .before .before .args .slot0 .now) (c .before .before .before .before .before .before .before .before .before .before .before .before .before .before .before .args .slot1 .now) (c .before .before .before .before .before .before .before .before .before .before .before .before .before .before .before .args .scratch .now)))) (sym fit)
+    let given =
+    c .before .before .before .before .before .before .before .before .before .before .before .before .before .before .before .args in
+    let fit : fits (build (given .g)) (length (given .slot0 .now)) (length (given .slot1 .now))
+    (length (given .scratch .now)) ≡ true = sym
+    (c .before .before .before .before .before .before .before .before .before .before .before .taken .ensures) ∙
+    c .before .before .before .before .before .before .before .before .before .before .if1 .taken in
+    c .before .before .before .before .before .before .start-taken .ensures
+    ∙ ap (λ (b : Bool). pick b (onCourse (given .checked) (given .g) (given .allowance)
+    (flashOf (given .slot0 .now) (given .slot1 .now) (given .scratch .now))
+    (decide accepted (build (given .g)) (flashOf (given .slot0 .now) (given .slot1 .now) (given .scratch .now))))
+    (refused Refusal.Geometry (flashOf (given .slot0 .now) (given .slot1 .now) (given .scratch .now)))) (sym fit)
 
 returns-2 : tie.Need-returns-2
 unfolding fullStart valid
 returns-2 c =
-    let fit : fits (build (c .before .before .before .before .before .before .args .g)) (length
-    (c .before .before .before .before .before .before .args .slot0 .now)) (length
-    (c .before .before .before .before .before .before .args .slot1 .now)) (length
-    (c .before .before .before .before .before .before .args .scratch .now)) ≡ false = sym (c .before .before .taken .ensures)
-    ∙ c .before .if1 .left in
-    refusing (c .refuse .result) Refusal.Geometry (flashOf (c .before .before .before .before .before .before .args .slot0 .now)
-    (c .before .before .before .before .before .before .args .slot1 .now)
-    (c .before .before .before .before .before .before .args .scratch .now)) (c .refuse .ensures) ∙ ap (λ (b : Bool). pick b
-    (onCourse (c .before .before .before .before .before .before .args .checked)
-    (c .before .before .before .before .before .before .args .g)
-    (c .before .before .before .before .before .before .args .allowance) (flashOf
-    (c .before .before .before .before .before .before .args .slot0 .now)
-    (c .before .before .before .before .before .before .args .slot1 .now)
-    (c .before .before .before .before .before .before .args .scratch .now)) (decide accepted (build
-    (c .before .before .before .before .before .before .args .g)) (flashOf
-    (c .before .before .before .before .before .before .args .slot0 .now)
-    (c .before .before .before .before .before .before .args .slot1 .now)
-    (c .before .before .before .before .before .before .args .scratch .now)))) (refused Refusal.Geometry (flashOf
-    (c .before .before .before .before .before .before .args .slot0 .now)
-    (c .before .before .before .before .before .before .args .slot1 .now)
-    (c .before .before .before .before .before .before .args .scratch .now)))) (sym fit)
+    let given = c .before .before .before .before .before .before .args in
+    let fit : fits (build (given .g)) (length (given .slot0 .now)) (length (given .slot1 .now))
+    (length (given .scratch .now)) ≡ false = sym (c .before .before .taken .ensures) ∙ c .before .if1 .left in
+    refusing (c .refuse .result) Refusal.Geometry (flashOf (given .slot0 .now) (given .slot1 .now)
+    (given .scratch .now)) (c .refuse .ensures)
+    ∙ ap (λ (b : Bool). pick b (onCourse (given .checked) (given .g) (given .allowance)
+    (flashOf (given .slot0 .now) (given .slot1 .now) (given .scratch .now))
+    (decide accepted (build (given .g)) (flashOf (given .slot0 .now) (given .slot1 .now) (given .scratch .now))))
+    (refused Refusal.Geometry (flashOf (given .slot0 .now) (given .slot1 .now) (given .scratch .now)))) (sym fit)
 
 pub full-start-spec : {M : Type 1} → statement M
 full-start-spec =

@@ -18,11 +18,9 @@ taken-requires c κs = search needs
 
 confirm-taken-requires : tie.Need-confirm-taken-requires
 confirm-taken-requires c κs =
-    small-fits (c .before .before .before .before .before .before .args .g) (length
-    (c .before .before .before .before .before .before .args .slot0 .now)) (length
-    (c .before .before .before .before .before .before .args .slot1 .now)) (length
-    (c .before .before .before .before .before .before .args .scratch .now)) (sym (c .before .before .taken .ensures)
-    ∙ c .before .if1 .taken)
+    let given = c .before .before .before .before .before .before .args in
+    small-fits (given .g) (length (given .slot0 .now)) (length (given .slot1 .now)) (length (given .scratch .now))
+    (sym (c .before .before .taken .ensures) ∙ c .before .if1 .taken)
 
 refuse-requires : tie.Need-refuse-requires
 refuse-requires c κs = search needs
@@ -33,53 +31,30 @@ same-length c = search needs
 returns : tie.Need-returns
 unfolding confirming unlessRefused valid
 returns c =
-    let fit : fits (build (c .before .before .before .before .before .before .before .before .before .args .g)) (length
-    (c .before .before .before .before .before .before .before .before .before .args .slot0 .now)) (length
-    (c .before .before .before .before .before .before .before .before .before .args .slot1 .now)) (length
-    (c .before .before .before .before .before .before .before .before .before .args .scratch .now)) ≡ true = sym
-    (c .before .before .before .before .before .taken .ensures) ∙ c .before .before .before .before .if1 .taken in
-    c .before .before .confirm-taken .ensures ∙ ap (λ (b : Bool). pick b (unlessUnderWay (askedBy
-    (c .before .before .before .before .before .before .before .before .before .args .g) (flashOf
-    (c .before .before .before .before .before .before .before .before .before .args .slot0 .now)
-    (c .before .before .before .before .before .before .before .before .before .args .slot1 .now)
-    (c .before .before .before .before .before .before .before .before .before .args .scratch .now))) (flashOf
-    (c .before .before .before .before .before .before .before .before .before .args .slot0 .now)
-    (c .before .before .before .before .before .before .before .before .before .args .slot1 .now)
-    (c .before .before .before .before .before .before .before .before .before .args .scratch .now)) (confirmIfNeeded
-    (c .before .before .before .before .before .before .before .before .before .args .g) (flashOf
-    (c .before .before .before .before .before .before .before .before .before .args .slot0 .now)
-    (c .before .before .before .before .before .before .before .before .before .args .slot1 .now)
-    (c .before .before .before .before .before .before .before .before .before .args .scratch .now)))) (refusedMark Refusal.Geometry
-    (flashOf (c .before .before .before .before .before .before .before .before .before .args .slot0 .now)
-    (c .before .before .before .before .before .before .before .before .before .args .slot1 .now)
-    (c .before .before .before .before .before .before .before .before .before .args .scratch .now)))) (sym fit)
+    let given = c .before .before .before .before .before .before .before .before .before .args in
+    let fit : fits (build (given .g)) (length (given .slot0 .now)) (length (given .slot1 .now))
+    (length (given .scratch .now)) ≡ true = sym (c .before .before .before .before .before .taken .ensures) ∙
+    c .before .before .before .before .if1 .taken in
+    c .before .before .confirm-taken .ensures
+    ∙ ap (λ (b : Bool). pick b (unlessUnderWay (askedBy (given .g)
+    (flashOf (given .slot0 .now) (given .slot1 .now) (given .scratch .now)))
+    (flashOf (given .slot0 .now) (given .slot1 .now) (given .scratch .now))
+    (confirmIfNeeded (given .g) (flashOf (given .slot0 .now) (given .slot1 .now) (given .scratch .now))))
+    (refusedMark Refusal.Geometry (flashOf (given .slot0 .now) (given .slot1 .now) (given .scratch .now)))) (sym fit)
 
 returns-2 : tie.Need-returns-2
 unfolding confirming unlessRefused valid
 returns-2 c =
-    let fit : fits (build (c .before .before .before .before .before .before .args .g)) (length
-    (c .before .before .before .before .before .before .args .slot0 .now)) (length
-    (c .before .before .before .before .before .before .args .slot1 .now)) (length
-    (c .before .before .before .before .before .before .args .scratch .now)) ≡ false = sym (c .before .before .taken .ensures)
-    ∙ c .before .if1 .left in
-    refusing-mark (c .refuse .result) Refusal.Geometry (flashOf
-    (c .before .before .before .before .before .before .args .slot0 .now)
-    (c .before .before .before .before .before .before .args .slot1 .now)
-    (c .before .before .before .before .before .before .args .scratch .now)) (c .refuse .ensures) ∙ ap (λ (b : Bool). pick b
-    (unlessUnderWay (askedBy (c .before .before .before .before .before .before .args .g) (flashOf
-    (c .before .before .before .before .before .before .args .slot0 .now)
-    (c .before .before .before .before .before .before .args .slot1 .now)
-    (c .before .before .before .before .before .before .args .scratch .now))) (flashOf
-    (c .before .before .before .before .before .before .args .slot0 .now)
-    (c .before .before .before .before .before .before .args .slot1 .now)
-    (c .before .before .before .before .before .before .args .scratch .now)) (confirmIfNeeded
-    (c .before .before .before .before .before .before .args .g) (flashOf
-    (c .before .before .before .before .before .before .args .slot0 .now)
-    (c .before .before .before .before .before .before .args .slot1 .now)
-    (c .before .before .before .before .before .before .args .scratch .now)))) (refusedMark Refusal.Geometry (flashOf
-    (c .before .before .before .before .before .before .args .slot0 .now)
-    (c .before .before .before .before .before .before .args .slot1 .now)
-    (c .before .before .before .before .before .before .args .scratch .now)))) (sym fit)
+    let given = c .before .before .before .before .before .before .args in
+    let fit : fits (build (given .g)) (length (given .slot0 .now)) (length (given .slot1 .now))
+    (length (given .scratch .now)) ≡ false = sym (c .before .before .taken .ensures) ∙ c .before .if1 .left in
+    refusing-mark (c .refuse .result) Refusal.Geometry (flashOf (given .slot0 .now) (given .slot1 .now)
+    (given .scratch .now)) (c .refuse .ensures)
+    ∙ ap (λ (b : Bool). pick b (unlessUnderWay (askedBy (given .g)
+    (flashOf (given .slot0 .now) (given .slot1 .now) (given .scratch .now)))
+    (flashOf (given .slot0 .now) (given .slot1 .now) (given .scratch .now))
+    (confirmIfNeeded (given .g) (flashOf (given .slot0 .now) (given .slot1 .now) (given .scratch .now))))
+    (refusedMark Refusal.Geometry (flashOf (given .slot0 .now) (given .slot1 .now) (given .scratch .now)))) (sym fit)
 
 pub confirm-spec : {M : Type 1} → statement M
 confirm-spec =

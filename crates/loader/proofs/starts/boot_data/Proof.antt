@@ -26,28 +26,28 @@ checked-boot-requires c κs = search needs
 returns : tie.Need-returns
 unfolding started
 returns c =
-    ap (λ (h : Header). started (c .before .before .before .before .args .checked) h (check
-    (c .before .before .before .before .args .image .now))) (sym (c .enum-told .given .1) ∙ c .before .before .head .ensures)
+    let given = c .before .before .before .before .args in
+    ap (λ (h : Header). started (given .checked) h (check (given .image .now)))
+    (sym (c .enum-told .given .1) ∙ c .before .before .head .ensures)
 
 returns-2 : tie.Need-returns-2
 unfolding started
 returns-2 c =
+    let given = c .before .before .before .before .before .before .before .args in
     let h : ℕ = c .before .before .before .header .given .0 .0 in
-    c .checked-boot .ensures ∙ ap (λ (b : Bool). pick b (judgedStart h (check
-    (c .before .before .before .before .before .before .before .args .image .now))) (Boot h)) (sym (c .before .if1 .taken))
-    ∙ ap (λ (h : Header). started (c .before .before .before .before .before .before .before .args .checked) h (check
-    (c .before .before .before .before .before .before .before .args .image .now))) (sym
-    (c .before .before .before .header .given .1) ∙ c .before .before .before .before .before .head .ensures)
+    c .checked-boot .ensures
+    ∙ ap (λ (b : Bool). pick b (judgedStart h (check (given .image .now))) (Boot h)) (sym (c .before .if1 .taken))
+    ∙ ap (λ (h : Header). started (given .checked) h (check (given .image .now)))
+    (sym (c .before .before .before .header .given .1) ∙ c .before .before .before .before .before .head .ensures)
 
 returns-3 : tie.Need-returns-3
 unfolding started
 returns-3 c =
+    let given = c .before .before .before .before .before .before .args in
     let h : ℕ = c .before .before .header .given .0 .0 in
-    ap (λ (b : Bool). pick b (judgedStart h (check (c .before .before .before .before .before .before .args .image .now))) (Boot h))
-    (sym (c .if1 .left))
-    ∙ ap (λ (h : Header). started (c .before .before .before .before .before .before .args .checked) h (check
-    (c .before .before .before .before .before .before .args .image .now))) (sym (c .before .before .header .given .1)
-    ∙ c .before .before .before .before .head .ensures)
+    ap (λ (b : Bool). pick b (judgedStart h (check (given .image .now))) (Boot h)) (sym (c .if1 .left))
+    ∙ ap (λ (h : Header). started (given .checked) h (check (given .image .now)))
+    (sym (c .before .before .header .given .1) ∙ c .before .before .before .before .head .ensures)
 
 pub boot-data-spec : {M : Type 1} → statement M
 boot-data-spec =

@@ -15,7 +15,12 @@ sub-least c = search needs
 
 mul-least : tie.Need-mul-least
 mul-least c =
-    omega (arith, mul-le-mul {n₁ = c .before .before .before .args .g .sectors - 1} {m₁ = c .before .before .before .args .g .sector} {n₂ = 128} {m₂ = 65536} (omega (arith, c .before .before .before .pre)) (omega (arith, c .before .before .before .pre)))
+    let given = c .before .before .before .args in
+    omega (
+      arith,
+      mul-le-mul {n₁ = given .g .sectors - 1} {m₁ = given .g .sector} {n₂ = 128} {m₂ = 65536}
+          (omega (arith, c .before .before .before .pre)) (omega (arith, c .before .before .before .pre)),
+    )
 
 least-requires : tie.Need-least-requires
 least-requires c κs = search needs
@@ -28,12 +33,11 @@ slice-aggregate-result c =
 returns : tie.Need-returns
 unfolding dataOf
 returns c =
-    let n : ℕ = (c .before .before .before .before .before .args .g .sectors - 1) * c .before .before .before .before .before .args .g .sector in
-    ap (λ (k : ℕ). take k (c .before .before .before .before .before .args .slot .now)) (c .before .least .ensures)
-    ∙ sym (take-min (length (c .before .before .before .before .before .args .slot .now)) n
-    (c .before .before .before .before .before .args .slot .now)) ∙ take-all (length
-    (c .before .before .before .before .before .args .slot .now)) (take n
-    (c .before .before .before .before .before .args .slot .now)) (simp length-take (omega arith))
+    let given = c .before .before .before .before .before .args in
+    let n : ℕ = (given .g .sectors - 1) * given .g .sector in
+    ap (λ (k : ℕ). take k (given .slot .now)) (c .before .least .ensures)
+    ∙ sym (take-min (length (given .slot .now)) n (given .slot .now))
+    ∙ take-all (length (given .slot .now)) (take n (given .slot .now)) (simp length-take (omega arith))
 
 pub data-of-spec : {M : Type 1} → statement M
 data-of-spec =

@@ -26,44 +26,46 @@ judge-requires c κs = search needs
 returns : tie.Need-returns
 unfolding dataOf
 returns c =
-    let e : c .judge .result ≡ decide accepted (build (c .before .before .before .before .before .before .before .before .args .g))
-    (flashOf (c .before .before .before .before .before .before .before .before .args .slot0 .now)
-    (c .before .before .before .before .before .before .before .before .args .slot1 .now)
-    (c .before .before .before .before .before .before .before .before .args .scratch .now)) =
+    let given = c .before .before .before .before .before .before .before .before .args in
+    let e : c .judge .result ≡ decide accepted (build (given .g))
+    (flashOf (given .slot0 .now)
+    (given .slot1 .now)
+    (given .scratch .now)) =
     c .judge .ensures ∙ ap₂ judged (c .before .slot-accepted .ensures) (c .before .before .before .before .asks .ensures) ∙ sym
-    (decide-checked accepted (c .before .before .before .before .before .before .before .before .args .g) (flashOf
-    (c .before .before .before .before .before .before .before .before .args .slot0 .now)
-    (c .before .before .before .before .before .before .before .before .args .slot1 .now)
-    (c .before .before .before .before .before .before .before .before .args .scratch .now))) in (
+    (decide-checked accepted (given .g) (flashOf
+    (given .slot0 .now)
+    (given .slot1 .now)
+    (given .scratch .now))) in (
       e,
-      ap (inBounds (build (c .before .before .before .before .before .before .before .before .args .g))) (c .judge .ensures ∙ ap
+      ap (inBounds (build (given .g))) (c .judge .ensures ∙ ap
           (judged _) (c .before .before .before .before .asks .ensures))
-          ∙ judged-bounded (build (c .before .before .before .before .before .before .before .before .args .g))
-          (c .before .slot-accepted .result) (askedBy (c .before .before .before .before .before .before .before .before .args .g)
-          (flashOf (c .before .before .before .before .before .before .before .before .args .slot0 .now)
-          (c .before .before .before .before .before .before .before .before .args .slot1 .now)
-          (c .before .before .before .before .before .before .before .before .args .scratch .now))) (asks-bounded (build
-          (c .before .before .before .before .before .before .before .before .args .g)) _ _ _),
+          ∙ judged-bounded (build (given .g))
+          (c .before .slot-accepted .result) (askedBy (given .g)
+          (flashOf (given .slot0 .now)
+          (given .slot1 .now)
+          (given .scratch .now))) (asks-bounded (build
+          (given .g)) _ _ _),
     )
 
 returns-2 : tie.Need-returns-2
 returns-2 c =
-    let a : askedBy (c .before .before .before .before .before .before .args .g) (flashOf
-    (c .before .before .before .before .before .before .args .slot0 .now)
-    (c .before .before .before .before .before .before .args .slot1 .now)
-    (c .before .before .before .before .before .before .args .scratch .now)) ≡ c .before .before .asks .result = sym
+    let given = c .before .before .before .before .before .before .args in
+    let a : askedBy (given .g) (flashOf
+    (given .slot0 .now)
+    (given .slot1 .now)
+    (given .scratch .now)) ≡ c .before .before .asks .result = sym
     (c .before .before .asks .ensures) in
-    let w : asksCheck (askedBy (c .before .before .before .before .before .before .args .g) (flashOf
-    (c .before .before .before .before .before .before .args .slot0 .now)
-    (c .before .before .before .before .before .before .args .slot1 .now)
-    (c .before .before .before .before .before .before .args .scratch .now))) ≡ false = ap asksCheck a ∙ sym
+    let w : asksCheck (askedBy (given .g) (flashOf
+    (given .slot0 .now)
+    (given .slot1 .now)
+    (given .scratch .now))) ≡ false = ap asksCheck a ∙ sym
     (c .before .wants-check .ensures) ∙ c .if1 .left in (
-      c .before .before .asks .ensures ∙ sym (decide-unchecked accepted (c .before .before .before .before .before .before .args .g)
-          (flashOf (c .before .before .before .before .before .before .args .slot0 .now)
-          (c .before .before .before .before .before .before .args .slot1 .now)
-          (c .before .before .before .before .before .before .args .scratch .now)) w),
-      ap (inBounds (build (c .before .before .before .before .before .before .args .g))) (c .before .before .asks .ensures)
-          ∙ asks-bounded (build (c .before .before .before .before .before .before .args .g)) _ _ _,
+      c .before .before .asks .ensures ∙ sym (decide-unchecked accepted (given .g)
+          (flashOf (given .slot0 .now)
+          (given .slot1 .now)
+          (given .scratch .now)) w),
+      ap (inBounds (build (given .g))) (c .before .before .asks .ensures)
+          ∙ asks-bounded (build (given .g)) _ _ _,
     )
 
 pub decided-spec : {M : Type 1} → statement M

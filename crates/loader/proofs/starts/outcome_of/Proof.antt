@@ -26,11 +26,11 @@ enum-told-3 c = search needs
 returns : tie.Need-returns
 unfolding ended bootOf
 returns c =
+    let given = c .before .before .before .before .before .args in
     c .boot-data .ensures
-    ∙ ap (λ (xs : List ℕ). started (c .before .before .before .before .before .args .checked) (head xs) (check xs))
-    (c .before .data-of .ensures)
-    ∙ ap (ended (c .before .before .before .before .before .args .checked) (c .before .before .before .before .before .args .g)
-    (flashOf (c .before .before .before .before .before .args .slot0 .now) [] [])) (sym (c .before .before .enum-told .given .1))
+    ∙ ap (λ (xs : List ℕ). started (given .checked) (head xs) (check xs)) (c .before .data-of .ensures)
+    ∙ ap (ended (given .checked) (given .g) (flashOf (given .slot0 .now) [] []))
+    (sym (c .before .before .enum-told .given .1))
 
 returns-2 : tie.Need-returns-2
 unfolding ended
@@ -39,8 +39,8 @@ returns-2 c = search needs
 returns-3 : tie.Need-returns-3
 unfolding ended
 returns-3 c =
-    ap (ended (c .before .before .before .args .checked) (c .before .before .before .args .g) (flashOf
-    (c .before .before .before .args .slot0 .now) [] [])) (sym (c .enum-told3 .given .1))
+    let given = c .before .before .before .args in
+    ap (ended (given .checked) (given .g) (flashOf (given .slot0 .now) [] [])) (sym (c .enum-told3 .given .1))
 
 pub outcome-of-spec : {M : Type 1} → statement M
 outcome-of-spec =

@@ -31,26 +31,17 @@ same-length-3 c = search needs
 
 returns : tie.Need-returns
 returns c =
+    let given = c .before .before .before .before .before .before .before .before .before .before .args in
     let e = c .before .before .before .decided .ensures .0 in
-    let d : isDamage (c .before .before .before .decided .result) ≡ true = sym (c .before .before .is-damage .ensures)
-    ∙ c .before .if1 .taken in
-    refusing (c .refuse .result) Refusal.Damage (flashOf
-    (c .before .before .before .before .before .before .before .before .before .before .args .slot0 .now)
-    (c .before .before .before .before .before .before .before .before .before .before .args .slot1 .now)
-    (c .before .before .before .before .before .before .before .before .before .before .args .scratch .now)) (c .refuse .ensures)
-    ∙ sym (damaged (c .before .before .before .before .before .before .before .before .before .before .args .checked)
-    (c .before .before .before .before .before .before .before .before .before .before .args .g)
-    (c .before .before .before .before .before .before .before .before .before .before .args .allowance) (flashOf
-    (c .before .before .before .before .before .before .before .before .before .before .args .slot0 .now)
-    (c .before .before .before .before .before .before .before .before .before .before .args .slot1 .now)
-    (c .before .before .before .before .before .before .before .before .before .before .args .scratch .now))
+    let d : isDamage (c .before .before .before .decided .result) ≡ true = sym
+    (c .before .before .is-damage .ensures) ∙ c .before .if1 .taken in
+    refusing (c .refuse .result) Refusal.Damage (flashOf (given .slot0 .now) (given .slot1 .now)
+    (given .scratch .now)) (c .refuse .ensures)
+    ∙ sym (damaged (given .checked) (given .g) (given .allowance)
+    (flashOf (given .slot0 .now) (given .slot1 .now) (given .scratch .now))
     (c .before .before .before .decided .result) d)
-    ∙ ap (onCourse (c .before .before .before .before .before .before .before .before .before .before .args .checked)
-    (c .before .before .before .before .before .before .before .before .before .before .args .g)
-    (c .before .before .before .before .before .before .before .before .before .before .args .allowance) (flashOf
-    (c .before .before .before .before .before .before .before .before .before .before .args .slot0 .now)
-    (c .before .before .before .before .before .before .before .before .before .before .args .slot1 .now)
-    (c .before .before .before .before .before .before .before .before .before .before .args .scratch .now))) e
+    ∙ ap (onCourse (given .checked) (given .g) (given .allowance)
+    (flashOf (given .slot0 .now) (given .slot1 .now) (given .scratch .now))) e
 
 same-length-4 : tie.Need-same-length-4
 same-length-4 c = search needs
@@ -63,11 +54,18 @@ same-length-6 c = search needs
 
 returns-2 : tie.Need-returns-2
 returns-2 c =
-    let e = c .before .before .before .before .before .before .before .before .before .before .before .before .decided .ensures .0 in
-    let d : isDamage (c .before .before .before .before .before .before .before .before .before .before .before .before .decided .result) ≡ false = sym (c .before .before .before .before .before .before .before .before .before .before .before .is-damage .ensures) ∙ c .before .before .before .before .before .before .before .before .before .before .if1 .left in
-    c .before .before .before .before .before .before .take-course .ensures ∙ sym (undamaged
-    (c .before .before .before .before .before .before .before .before .before .before .before .before .before .before .before .before .before .before .before .args .checked) (c .before .before .before .before .before .before .before .before .before .before .before .before .before .before .before .before .before .before .before .args .g) (c .before .before .before .before .before .before .before .before .before .before .before .before .before .before .before .before .before .before .before .args .allowance) (flashOf (c .before .before .before .before .before .before .before .before .before .before .before .before .before .before .before .before .before .before .before .args .slot0 .now) (c .before .before .before .before .before .before .before .before .before .before .before .before .before .before .before .before .before .before .before .args .slot1 .now) (c .before .before .before .before .before .before .before .before .before .before .before .before .before .before .before .before .before .before .before .args .scratch .now)) (c .before .before .before .before .before .before .before .before .before .before .before .before .decided .result) d)
-    ∙ ap (onCourse (c .before .before .before .before .before .before .before .before .before .before .before .before .before .before .before .before .before .before .before .args .checked) (c .before .before .before .before .before .before .before .before .before .before .before .before .before .before .before .before .before .before .before .args .g) (c .before .before .before .before .before .before .before .before .before .before .before .before .before .before .before .before .before .before .before .args .allowance) (flashOf (c .before .before .before .before .before .before .before .before .before .before .before .before .before .before .before .before .before .before .before .args .slot0 .now) (c .before .before .before .before .before .before .before .before .before .before .before .before .before .before .before .before .before .before .before .args .slot1 .now) (c .before .before .before .before .before .before .before .before .before .before .before .before .before .before .before .before .before .before .before .args .scratch .now))) e
+    let given =
+    c .before .before .before .before .before .before .before .before .before .before .before .before .before .before .before .before .before .before .before .args in
+    let e =
+    c .before .before .before .before .before .before .before .before .before .before .before .before .decided .ensures .0 in
+    let d : isDamage
+    (c .before .before .before .before .before .before .before .before .before .before .before .before .decided .result) ≡ false = sym (c .before .before .before .before .before .before .before .before .before .before .before .is-damage .ensures) ∙ c .before .before .before .before .before .before .before .before .before .before .if1 .left in
+    c .before .before .before .before .before .before .take-course .ensures
+    ∙ sym (undamaged (given .checked) (given .g) (given .allowance)
+    (flashOf (given .slot0 .now) (given .slot1 .now) (given .scratch .now))
+    (c .before .before .before .before .before .before .before .before .before .before .before .before .decided .result) d)
+    ∙ ap (onCourse (given .checked) (given .g) (given .allowance)
+    (flashOf (given .slot0 .now) (given .slot1 .now) (given .scratch .now))) e
 
 pub start-taken-spec : {M : Type 1} → statement M
 start-taken-spec =

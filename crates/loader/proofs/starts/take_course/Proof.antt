@@ -22,6 +22,7 @@ found-of-requires c κs = search needs
 
 sub-t20 : tie.Need-sub-t20
 sub-t20 c =
+    let given = c .before .before .before .before .before .before .before .before .before .before .before .before .before .before .before .before .args in
     let r = c .before .before .before .before .before .before .before .before .before .carry-out .ensures in
     let left : c .before .before .before .before .before .before .before .before .before .carry-out .result .left ≡ _ = ap (λ
     (s : State). s .run .left) r in
@@ -29,7 +30,7 @@ sub-t20 c =
       arith,
       left,
       steps-left (build
-          (c .before .before .before .before .before .before .before .before .before .before .before .before .before .before .before .before .args .g)) (listOf (build (c .before .before .before .before .before .before .before .before .before .before .before .before .before .before .before .before .args .g)) (okUnset (build (c .before .before .before .before .before .before .before .before .before .before .before .before .before .before .before .before .args .g)) (flashOf (c .before .before .before .before .before .before .before .before .before .before .before .before .before .before .before .before .args .slot0 .now) (c .before .before .before .before .before .before .before .before .before .before .before .before .before .before .before .before .args .slot1 .now) (c .before .before .before .before .before .before .before .before .before .before .before .before .before .before .before .before .args .scratch .now))) (c .before .before .before .before .before .before .before .before .before .before .before .before .before .before .before .before .args .course)) (start (c .before .before .before .before .before .before .before .before .before .before .before .before .before .before .before .before .args .allowance) (flashOf (c .before .before .before .before .before .before .before .before .before .before .before .before .before .before .before .before .args .slot0 .now) (c .before .before .before .before .before .before .before .before .before .before .before .before .before .before .before .before .args .slot1 .now) (c .before .before .before .before .before .before .before .before .before .before .before .before .before .before .before .before .args .scratch .now))),
+          (given .g)) (listOf (build (given .g)) (okUnset (build (given .g)) (flashOf (given .slot0 .now) (given .slot1 .now) (given .scratch .now))) (given .course)) (start (given .allowance) (flashOf (given .slot0 .now) (given .slot1 .now) (given .scratch .now))),
     )
 
 outcome-of-requires : tie.Need-outcome-of-requires
@@ -47,9 +48,14 @@ same-length-3 c = search needs
 returns : tie.Need-returns
 unfolding carried
 returns c =
-    took (c .before .before .before .before .before .before .before .before .before .before .before .before .before .before .before .before .before .before .args .checked) (c .before .before .before .before .before .before .before .before .before .before .before .before .before .before .before .before .before .before .args .g) (c .before .before .before .before .before .before .before .before .before .before .before .before .before .before .before .before .before .before .args .allowance) (c .before .before .before .before .before .before .before .before .before .before .before .before .before .before .before .before .before .before .args .course) _ _ _ (c .before .before .before .before .before .before .before .before .before .before .before .carry-out .result) _ _ _
-    (c .before .before .before .before .done-of .ensures) (c .before .before .before .found-of .ensures) (c .outcome-of .ensures)
-    ∙ ap (answered (c .before .before .before .before .before .before .before .before .before .before .before .before .before .before .before .before .before .before .args .checked) (c .before .before .before .before .before .before .before .before .before .before .before .before .before .before .before .before .before .before .args .g) (c .before .before .before .before .before .before .before .before .before .before .before .before .before .before .before .before .before .before .args .allowance) (c .before .before .before .before .before .before .before .before .before .before .before .before .before .before .before .before .before .before .args .course)) (c .before .before .before .before .before .before .before .before .before .before .before .carry-out .ensures)
+    let given =
+    c .before .before .before .before .before .before .before .before .before .before .before .before .before .before .before .before .before .before .args in
+    took (given .checked) (given .g) (given .allowance) (given .course) _ _ _
+    (c .before .before .before .before .before .before .before .before .before .before .before .carry-out .result) _
+    _ _ (c .before .before .before .before .done-of .ensures) (c .before .before .before .found-of .ensures)
+    (c .outcome-of .ensures)
+    ∙ ap (answered (given .checked) (given .g) (given .allowance) (given .course))
+    (c .before .before .before .before .before .before .before .before .before .before .before .carry-out .ensures)
 
 pub take-course-spec : {M : Type 1} → statement M
 take-course-spec =

@@ -5,7 +5,7 @@ use Rattle.flash.specs.Build.{Area}
 use Rattle.flash.specs.Base.{base, build}
 use Rattle.plan.specs.Lists.{okOps}
 use Rattle.plan.specs.Asked.{flashOf}
-use Rattle.carry.specs.Areas.{state}
+use Rattle.moves.specs.Areas.{state}
 use Rattle.marking.specs.MarkLaws.{left-of, confirmed-state, confirm-written, confirm-refused}
 use borrow.Author.Needs.{needs}
 use Rattle.marking.proofs.marks.confirm_free.Statement.{statement}
@@ -23,13 +23,10 @@ write-ok-requires c κs = search needs
 written-requires : tie.Need-written-requires
 unfolding base
 written-requires c κs =
-    left-of (c .before .before .before .before .before .before .before .before .before .args .g) (okOps (build
-    (c .before .before .before .before .before .before .before .before .before .args .g)) Area.slot0 true) (state _ [] []
-    (c .before .before .write-ok .result)) 1 (flashOf
-    (c .before .before .before .before .before .before .before .before .before .args .slot0 .now) [] [])
-    (confirmed-state (c .before .before .before .before .before .before .before .before .before .args .g)
-    (c .before .before .before .before .before .before .before .before .before .args .slot0 .now) [] [] 1 _ _
-    (c .before .before .write-ok .ensures))
+    let given = c .before .before .before .before .before .before .before .before .before .args in
+    left-of (given .g) (okOps (build (given .g)) Area.slot0 true)
+    (state _ [] [] (c .before .before .write-ok .result)) 1 (flashOf (given .slot0 .now) [] [])
+    (confirmed-state (given .g) (given .slot0 .now) [] [] 1 _ _ (c .before .before .write-ok .ensures))
 
 refuse-requires : tie.Need-refuse-requires
 refuse-requires c κs = search needs
@@ -40,12 +37,10 @@ same-length c = search needs
 returns : tie.Need-returns
 unfolding base
 returns c =
-    λ x1 x2.
-    confirm-written (c .before .before .before .before .before .before .before .before .before .before .args .g)
-    (c .before .before .before .before .before .before .before .before .before .before .args .slot0 .now) x1 x2
-    (c .written .result) _ _
-    (sym (c .before .before .before .before .before .before .before .is-confirmable .ensures)
-    ∙ c .before .before .before .before .before .before .if1 .taken) (c .before .before .before .write-ok .ensures)
+    let given = c .before .before .before .before .before .before .before .before .before .before .args in
+    λ x1 x2. confirm-written (given .g) (given .slot0 .now) x1 x2 (c .written .result) _ _
+    (sym (c .before .before .before .before .before .before .before .is-confirmable .ensures) ∙
+    c .before .before .before .before .before .before .if1 .taken) (c .before .before .before .write-ok .ensures)
     (c .written .ensures)
 
 same-length-2 : tie.Need-same-length-2
@@ -53,10 +48,9 @@ same-length-2 c = search needs
 
 returns-2 : tie.Need-returns-2
 returns-2 c =
-    λ x1 x2.
-    confirm-refused (c .before .before .before .before .before .args .g)
-    (c .before .before .before .before .before .args .slot0 .now) x1 x2 (c .refuse .result) (sym
-    (c .before .before .is-confirmable .ensures) ∙ c .before .if1 .left) (c .refuse .ensures)
+    let given = c .before .before .before .before .before .args in
+    λ x1 x2. confirm-refused (given .g) (given .slot0 .now) x1 x2 (c .refuse .result)
+    (sym (c .before .before .is-confirmable .ensures) ∙ c .before .if1 .left) (c .refuse .ensures)
 
 pub confirm-free-spec : {M : Type 1} → statement M
 confirm-free-spec =

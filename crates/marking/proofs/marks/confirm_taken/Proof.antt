@@ -33,57 +33,32 @@ same-length c = search needs
 
 returns : tie.Need-returns
 returns c =
-    let s : standingOf (askedBy
-    (c .before .before .before .before .before .before .before .before .before .before .before .before .args .g) (flashOf
-    (c .before .before .before .before .before .before .before .before .before .before .before .before .args .slot0 .now)
-    (c .before .before .before .before .before .before .before .before .before .before .before .before .args .slot1 .now)
-    (c .before .before .before .before .before .before .before .before .before .before .before .before .args .scratch .now)))
-    ≡ Standing.Free = ap standingOf (sym (c .before .before .before .before .before .before .before .asks .ensures)) ∙ sym
-    (c .before .before .before .before .before .before .standing-of .ensures)
-    ∙ c .before .before .before .before .enum-told .given .1 in
-    c .before .before .confirm-free .ensures
-    (c .before .before .before .before .before .before .before .before .before .before .before .before .args .slot1 .now)
-    (c .before .before .before .before .before .before .before .before .before .before .before .before .args .scratch .now)
-    ∙ stands-free (askedBy
-    (c .before .before .before .before .before .before .before .before .before .before .before .before .args .g) (flashOf
-    (c .before .before .before .before .before .before .before .before .before .before .before .before .args .slot0 .now)
-    (c .before .before .before .before .before .before .before .before .before .before .before .before .args .slot1 .now)
-    (c .before .before .before .before .before .before .before .before .before .before .before .before .args .scratch .now)))
-    (flashOf (c .before .before .before .before .before .before .before .before .before .before .before .before .args .slot0 .now)
-    (c .before .before .before .before .before .before .before .before .before .before .before .before .args .slot1 .now)
-    (c .before .before .before .before .before .before .before .before .before .before .before .before .args .scratch .now))
-    (confirmIfNeeded (c .before .before .before .before .before .before .before .before .before .before .before .before .args .g)
-    (flashOf (c .before .before .before .before .before .before .before .before .before .before .before .before .args .slot0 .now)
-    (c .before .before .before .before .before .before .before .before .before .before .before .before .args .slot1 .now)
-    (c .before .before .before .before .before .before .before .before .before .before .before .before .args .scratch .now))) s
+    let given =
+    c .before .before .before .before .before .before .before .before .before .before .before .before .args in
+    let s : standingOf (askedBy (given .g) (flashOf (given .slot0 .now) (given .slot1 .now) (given .scratch .now))) ≡
+    Standing.Free = ap standingOf (sym (c .before .before .before .before .before .before .before .asks .ensures)) ∙
+    sym (c .before .before .before .before .before .before .standing-of .ensures) ∙
+    c .before .before .before .before .enum-told .given .1 in
+    c .before .before .confirm-free .ensures (given .slot1 .now) (given .scratch .now)
+    ∙ stands-free (askedBy (given .g) (flashOf (given .slot0 .now) (given .slot1 .now) (given .scratch .now)))
+    (flashOf (given .slot0 .now) (given .slot1 .now) (given .scratch .now))
+    (confirmIfNeeded (given .g) (flashOf (given .slot0 .now) (given .slot1 .now) (given .scratch .now))) s
 
 same-length-2 : tie.Need-same-length-2
 same-length-2 c = search needs
 
 returns-2 : tie.Need-returns-2
 returns-2 c =
+    let given = c .before .before .before .before .before .before .before .before .before .before .args in
     let r : Refusal = c .before .before .refusal .given .0 .0 in
-    let s : standingOf (askedBy (c .before .before .before .before .before .before .before .before .before .before .args .g)
-    (flashOf (c .before .before .before .before .before .before .before .before .before .before .args .slot0 .now)
-    (c .before .before .before .before .before .before .before .before .before .before .args .slot1 .now)
-    (c .before .before .before .before .before .before .before .before .before .before .args .scratch .now)))
-    ≡ Standing.Refused r = ap standingOf (sym (c .before .before .before .before .before .asks .ensures)) ∙ sym
+    let s : standingOf (askedBy (given .g) (flashOf (given .slot0 .now) (given .slot1 .now) (given .scratch .now))) ≡
+    Standing.Refused r = ap standingOf (sym (c .before .before .before .before .before .asks .ensures)) ∙ sym
     (c .before .before .before .before .standing-of .ensures) ∙ c .before .before .refusal .given .1 in
-    refusing-mark (c .refuse .result) r (flashOf
-    (c .before .before .before .before .before .before .before .before .before .before .args .slot0 .now)
-    (c .before .before .before .before .before .before .before .before .before .before .args .slot1 .now)
-    (c .before .before .before .before .before .before .before .before .before .before .args .scratch .now)) (c .refuse .ensures)
-    ∙ stands-refused (askedBy (c .before .before .before .before .before .before .before .before .before .before .args .g) (flashOf
-    (c .before .before .before .before .before .before .before .before .before .before .args .slot0 .now)
-    (c .before .before .before .before .before .before .before .before .before .before .args .slot1 .now)
-    (c .before .before .before .before .before .before .before .before .before .before .args .scratch .now))) (flashOf
-    (c .before .before .before .before .before .before .before .before .before .before .args .slot0 .now)
-    (c .before .before .before .before .before .before .before .before .before .before .args .slot1 .now)
-    (c .before .before .before .before .before .before .before .before .before .before .args .scratch .now)) (confirmIfNeeded
-    (c .before .before .before .before .before .before .before .before .before .before .args .g) (flashOf
-    (c .before .before .before .before .before .before .before .before .before .before .args .slot0 .now)
-    (c .before .before .before .before .before .before .before .before .before .before .args .slot1 .now)
-    (c .before .before .before .before .before .before .before .before .before .before .args .scratch .now))) r s
+    refusing-mark (c .refuse .result) r (flashOf (given .slot0 .now) (given .slot1 .now) (given .scratch .now))
+    (c .refuse .ensures)
+    ∙ stands-refused (askedBy (given .g) (flashOf (given .slot0 .now) (given .slot1 .now) (given .scratch .now)))
+    (flashOf (given .slot0 .now) (given .slot1 .now) (given .scratch .now))
+    (confirmIfNeeded (given .g) (flashOf (given .slot0 .now) (given .slot1 .now) (given .scratch .now))) r s
 
 pub confirm-taken-spec : {M : Type 1} → statement M
 confirm-taken-spec =

@@ -27,52 +27,46 @@ ok-unset-requires c κs = search needs
 returns : tie.Need-returns
 unfolding confirmable trailer base
 returns c =
-    let T : List ℕ = drop (startOf (c .before .before .before .before .before .before .before .args .g) (trailerSector (build
-    (c .before .before .before .before .before .before .before .args .g)) Area.slot0) .0)
-    (c .before .before .before .before .before .before .before .args .slot0 .now) in
-    let te : c .before .before .before .before .before .slot-trailer .result .now
-    ≡ T = c .before .before .before .before .before .slot-trailer .ensures in
-    let m : isGood (magicOf (build (c .before .before .before .before .before .before .before .args .g)) T) ≡ true = sym
-    (c .before .before .before .before .magic-good .ensures ∙ ap (λ (t : List ℕ). isGood (magicOf (build
-    (c .before .before .before .before .before .before .before .args .g)) t)) te) ∙ c .before .before .before .if1 .taken in
-    let d : hasValue 1 (markOf (build (c .before .before .before .before .before .before .before .args .g)) T (copyDoneAt (build
-    (c .before .before .before .before .before .before .before .args .g)))) ≡ true = sym (c .before .before .done-set .ensures ∙ ap
-    (λ (t : List ℕ). hasValue 1 (markOf (build (c .before .before .before .before .before .before .before .args .g)) t (copyDoneAt
-    (build (c .before .before .before .before .before .before .before .args .g))))) te) ∙ c .before .if2 .taken in
-    c .ok-unset .ensures ∙ ap (λ (t : List ℕ). isUnset (markOf (build
-    (c .before .before .before .before .before .before .before .args .g)) t (okAt (build
-    (c .before .before .before .before .before .before .before .args .g))))) te
-    ∙ ap₂ (λ (a b : Bool). a && (b && isUnset (markOf (build (c .before .before .before .before .before .before .before .args .g)) T
-    (okAt (build (c .before .before .before .before .before .before .before .args .g)))))) (sym m) (sym d)
+    let given = c .before .before .before .before .before .before .before .args in
+    let T : List ℕ = drop (startOf (given .g) (trailerSector (build (given .g)) Area.slot0) .0) (given .slot0 .now) in
+    let te : c .before .before .before .before .before .slot-trailer .result .now ≡ T =
+    c .before .before .before .before .before .slot-trailer .ensures in
+    let m : isGood (magicOf (build (given .g)) T) ≡ true = sym
+    (c .before .before .before .before .magic-good .ensures ∙ ap
+    (λ (t : List ℕ). isGood (magicOf (build (given .g)) t)) te) ∙ c .before .before .before .if1 .taken in
+    let d : hasValue 1 (markOf (build (given .g)) T (copyDoneAt (build (given .g)))) ≡ true = sym
+    (c .before .before .done-set .ensures ∙ ap (λ (t : List ℕ). hasValue 1
+    (markOf (build (given .g)) t (copyDoneAt (build (given .g))))) te) ∙ c .before .if2 .taken in
+    c .ok-unset .ensures
+    ∙ ap (λ (t : List ℕ). isUnset (markOf (build (given .g)) t (okAt (build (given .g))))) te
+    ∙ ap₂ (λ (a b : Bool). a && (b && isUnset (markOf (build (given .g)) T (okAt (build (given .g)))))) (sym m)
+    (sym d)
 
 returns-2 : tie.Need-returns-2
 unfolding confirmable trailer base
 returns-2 c =
-    let T : List ℕ = drop (startOf (c .before .before .before .before .before .before .args .g) (trailerSector (build
-    (c .before .before .before .before .before .before .args .g)) Area.slot0) .0)
-    (c .before .before .before .before .before .before .args .slot0 .now) in
-    let te : c .before .before .before .before .slot-trailer .result .now ≡ T = c .before .before .before .before .slot-trailer .ensures in
-    let m : isGood (magicOf (build (c .before .before .before .before .before .before .args .g)) T) ≡ true = sym
-    (c .before .before .before .magic-good .ensures ∙ ap (λ (t : List ℕ). isGood (magicOf (build
-    (c .before .before .before .before .before .before .args .g)) t)) te) ∙ c .before .before .if1 .taken in
-    let d : hasValue 1 (markOf (build (c .before .before .before .before .before .before .args .g)) T (copyDoneAt (build
-    (c .before .before .before .before .before .before .args .g)))) ≡ false = sym (c .before .done-set .ensures ∙ ap (λ
-    (t : List ℕ). hasValue 1 (markOf (build (c .before .before .before .before .before .before .args .g)) t (copyDoneAt (build
-    (c .before .before .before .before .before .before .args .g))))) te) ∙ c .if2 .left in
-    ap₂ (λ (a b : Bool). a && (b && isUnset (markOf (build (c .before .before .before .before .before .before .args .g)) T (okAt
-    (build (c .before .before .before .before .before .before .args .g)))))) (sym m) (sym d)
+    let given = c .before .before .before .before .before .before .args in
+    let T : List ℕ = drop (startOf (given .g) (trailerSector (build (given .g)) Area.slot0) .0) (given .slot0 .now) in
+    let te : c .before .before .before .before .slot-trailer .result .now ≡ T =
+    c .before .before .before .before .slot-trailer .ensures in
+    let m : isGood (magicOf (build (given .g)) T) ≡ true = sym
+    (c .before .before .before .magic-good .ensures ∙ ap (λ (t : List ℕ). isGood (magicOf (build (given .g)) t)) te)
+    ∙ c .before .before .if1 .taken in
+    let d : hasValue 1 (markOf (build (given .g)) T (copyDoneAt (build (given .g)))) ≡ false = sym
+    (c .before .done-set .ensures ∙ ap (λ (t : List ℕ). hasValue 1
+    (markOf (build (given .g)) t (copyDoneAt (build (given .g))))) te) ∙ c .if2 .left in
+    ap₂ (λ (a b : Bool). a && (b && isUnset (markOf (build (given .g)) T (okAt (build (given .g)))))) (sym m) (sym d)
 
 returns-3 : tie.Need-returns-3
 unfolding confirmable trailer base
 returns-3 c =
-    let T : List ℕ = drop (startOf (c .before .before .before .before .args .g) (trailerSector (build
-    (c .before .before .before .before .args .g)) Area.slot0) .0) (c .before .before .before .before .args .slot0 .now) in
+    let given = c .before .before .before .before .args in
+    let T : List ℕ = drop (startOf (given .g) (trailerSector (build (given .g)) Area.slot0) .0) (given .slot0 .now) in
     let te : c .before .before .slot-trailer .result .now ≡ T = c .before .before .slot-trailer .ensures in
-    let m : isGood (magicOf (build (c .before .before .before .before .args .g)) T) ≡ false = sym (c .before .magic-good .ensures
-    ∙ ap (λ (t : List ℕ). isGood (magicOf (build (c .before .before .before .before .args .g)) t)) te) ∙ c .if1 .left in
-    ap (λ (a : Bool). a && (hasValue 1 (markOf (build (c .before .before .before .before .args .g)) T (copyDoneAt (build
-    (c .before .before .before .before .args .g)))) && isUnset (markOf (build (c .before .before .before .before .args .g)) T (okAt
-    (build (c .before .before .before .before .args .g)))))) (sym m)
+    let m : isGood (magicOf (build (given .g)) T) ≡ false = sym
+    (c .before .magic-good .ensures ∙ ap (λ (t : List ℕ). isGood (magicOf (build (given .g)) t)) te) ∙ c .if1 .left in
+    ap (λ (a : Bool). a && (hasValue 1 (markOf (build (given .g)) T (copyDoneAt (build (given .g)))) && isUnset
+    (markOf (build (given .g)) T (okAt (build (given .g)))))) (sym m)
 
 pub is-confirmable-spec : {M : Type 1} → statement M
 is-confirmable-spec =

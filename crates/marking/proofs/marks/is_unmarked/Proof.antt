@@ -24,29 +24,27 @@ magic-unset-requires c κs = search needs
 returns : tie.Need-returns
 unfolding unmarked trailer base
 returns c =
-    let T : List ℕ = drop (startOf (c .before .before .before .before .before .args .g) (trailerSector (build
-    (c .before .before .before .before .before .args .g)) Area.slot0) .0)
-    (c .before .before .before .before .before .args .slot1 .now) in
-    let te : c .before .before .before .slot-trailer .result .now ≡ T = c .before .before .before .slot-trailer .ensures in
-    let ok : isUnset (markOf (build (c .before .before .before .before .before .args .g)) T (okAt (build
-    (c .before .before .before .before .before .args .g)))) ≡ true =
-    sym (c .before .before .ok-unset .ensures ∙ ap (λ (t : List ℕ). isUnset (markOf (build
-    (c .before .before .before .before .before .args .g)) t (okAt (build
-    (c .before .before .before .before .before .args .g))))) te) ∙ c .before .if1 .taken in
-    c .magic-unset .ensures ∙ ap (λ (t : List ℕ). noMagic (magicOf (build (c .before .before .before .before .before .args .g)) t)) te
-    ∙ ap (λ (b : Bool). b && noMagic (magicOf (build (c .before .before .before .before .before .args .g)) T)) (sym ok)
+    let given = c .before .before .before .before .before .args in
+    let T : List ℕ = drop (startOf (given .g) (trailerSector (build (given .g)) Area.slot0) .0) (given .slot1 .now) in
+    let te : c .before .before .before .slot-trailer .result .now ≡ T =
+    c .before .before .before .slot-trailer .ensures in
+    let ok : isUnset (markOf (build (given .g)) T (okAt (build (given .g)))) ≡ true = sym
+    (c .before .before .ok-unset .ensures ∙ ap (λ (t : List ℕ). isUnset
+    (markOf (build (given .g)) t (okAt (build (given .g))))) te) ∙ c .before .if1 .taken in
+    c .magic-unset .ensures
+    ∙ ap (λ (t : List ℕ). noMagic (magicOf (build (given .g)) t)) te
+    ∙ ap (λ (b : Bool). b && noMagic (magicOf (build (given .g)) T)) (sym ok)
 
 returns-2 : tie.Need-returns-2
 unfolding unmarked trailer base
 returns-2 c =
-    let T : List ℕ = drop (startOf (c .before .before .before .before .args .g) (trailerSector (build
-    (c .before .before .before .before .args .g)) Area.slot0) .0) (c .before .before .before .before .args .slot1 .now) in
+    let given = c .before .before .before .before .args in
+    let T : List ℕ = drop (startOf (given .g) (trailerSector (build (given .g)) Area.slot0) .0) (given .slot1 .now) in
     let te : c .before .before .slot-trailer .result .now ≡ T = c .before .before .slot-trailer .ensures in
-    let ok : isUnset (markOf (build (c .before .before .before .before .args .g)) T (okAt (build
-    (c .before .before .before .before .args .g)))) ≡ false =
-    sym (c .before .ok-unset .ensures ∙ ap (λ (t : List ℕ). isUnset (markOf (build (c .before .before .before .before .args .g)) t
-    (okAt (build (c .before .before .before .before .args .g))))) te) ∙ c .if1 .left in
-    ap (λ (b : Bool). b && noMagic (magicOf (build (c .before .before .before .before .args .g)) T)) (sym ok)
+    let ok : isUnset (markOf (build (given .g)) T (okAt (build (given .g)))) ≡ false = sym
+    (c .before .ok-unset .ensures ∙ ap (λ (t : List ℕ). isUnset
+    (markOf (build (given .g)) t (okAt (build (given .g))))) te) ∙ c .if1 .left in
+    ap (λ (b : Bool). b && noMagic (magicOf (build (given .g)) T)) (sym ok)
 
 pub is-unmarked-spec : {M : Type 1} → statement M
 is-unmarked-spec =

@@ -4,7 +4,7 @@ use Rattle.flash.specs.Build.{Area}
 use Rattle.flash.specs.Base.{build}
 use Rattle.plan.specs.Lists.{okOps, magicOps}
 use Rattle.plan.specs.Asked.{flashOf}
-use Rattle.carry.specs.Areas.{state}
+use Rattle.moves.specs.Areas.{state}
 use Rattle.marking.specs.MarkLaws.{left-of, marked-state, marks-written, marks-refused}
 use borrow.Author.Needs.{needs}
 use Rattle.marking.proofs.marks.mark_free.Statement.{statement}
@@ -21,17 +21,12 @@ ok-and-magic-requires c κs = search needs
 
 written-requires : tie.Need-written-requires
 written-requires c κs =
-    left-of (c .before .before .before .before .before .before .before .before .before .args .g) (okOps (build
-    (c .before .before .before .before .before .before .before .before .before .args .g)) Area.slot1
-    (c .before .before .before .before .before .before .before .before .before .args .permanent) ++ magicOps (build
-    (c .before .before .before .before .before .before .before .before .before .args .g)) Area.slot1) (state [] _ []
-    (c .before .before .ok-and-magic .result)) (c .before .before .before .before .mark-writes .result) (flashOf []
-    (c .before .before .before .before .before .before .before .before .before .args .slot1 .now) [])
-    (marked-state (c .before .before .before .before .before .before .before .before .before .args .g) []
-    (c .before .before .before .before .before .before .before .before .before .args .slot1 .now) []
-    (c .before .before .before .before .mark-writes .result)
-    (c .before .before .before .before .before .before .before .before .before .args .permanent) _ _
-    (c .before .before .ok-and-magic .ensures))
+    let given = c .before .before .before .before .before .before .before .before .before .args in
+    left-of (given .g) (okOps (build (given .g)) Area.slot1 (given .permanent) ++ magicOps (build (given .g))
+    Area.slot1) (state [] _ [] (c .before .before .ok-and-magic .result))
+    (c .before .before .before .before .mark-writes .result) (flashOf [] (given .slot1 .now) [])
+    (marked-state (given .g) [] (given .slot1 .now) [] (c .before .before .before .before .mark-writes .result)
+    (given .permanent) _ _ (c .before .before .ok-and-magic .ensures))
 
 refuse-requires : tie.Need-refuse-requires
 refuse-requires c κs = search needs
@@ -41,14 +36,12 @@ same-length c = search needs
 
 returns : tie.Need-returns
 returns c =
-    λ x0 x2.
-    marks-written (c .before .before .before .before .before .before .before .before .before .before .args .g) x0
-    (c .before .before .before .before .before .before .before .before .before .before .args .slot1 .now) x2 (c .written .result)
-    (c .before .before .before .before .before .before .before .before .before .before .args .permanent)
+    let given = c .before .before .before .before .before .before .before .before .before .before .args in
+    λ x0 x2. marks-written (given .g) x0 (given .slot1 .now) x2 (c .written .result) (given .permanent)
     (c .before .before .before .before .before .mark-writes .result) _ _
     (c .before .before .before .before .before .mark-writes .ensures)
-    (sym (c .before .before .before .before .before .before .before .is-unmarked .ensures)
-    ∙ c .before .before .before .before .before .before .if1 .taken) (c .before .before .before .ok-and-magic .ensures)
+    (sym (c .before .before .before .before .before .before .before .is-unmarked .ensures) ∙
+    c .before .before .before .before .before .before .if1 .taken) (c .before .before .before .ok-and-magic .ensures)
     (c .written .ensures)
 
 same-length-2 : tie.Need-same-length-2
@@ -56,11 +49,9 @@ same-length-2 c = search needs
 
 returns-2 : tie.Need-returns-2
 returns-2 c =
-    λ x0 x2.
-    marks-refused (c .before .before .before .before .before .args .g) x0
-    (c .before .before .before .before .before .args .slot1 .now) x2 (c .refuse .result)
-    (c .before .before .before .before .before .args .permanent) (sym (c .before .before .is-unmarked .ensures)
-    ∙ c .before .if1 .left) (c .refuse .ensures)
+    let given = c .before .before .before .before .before .args in
+    λ x0 x2. marks-refused (given .g) x0 (given .slot1 .now) x2 (c .refuse .result) (given .permanent)
+    (sym (c .before .before .is-unmarked .ensures) ∙ c .before .if1 .left) (c .refuse .ensures)
 
 pub mark-free-spec : {M : Type 1} → statement M
 mark-free-spec =

@@ -1,4 +1,0 @@
-pub mod Steps
-pub mod InArea
-pub mod Moves
-pub mod Areas
