@@ -21,10 +21,10 @@ module _ (g : Geometry) (i : Sector) (xs : List ℕ) (run : Run) where
   unfolding eraseIn attempt
   erase-done e l = rw (e, ne-eqb (run .left) 0 l)
 
-  pub erase-stopped : run .end ≡ Stopped → eraseIn g i (local xs run) ≡ local xs run
+  pub erase-stopped : run .end ≡ Stopped → eraseIn g i (local xs run) ≡ local xs (record { left = run .left; end = Stopped })
   unfolding eraseIn attempt
   erase-stopped e = rw e
 
-  pub erase-unerased : run .end ≡ Unerased → eraseIn g i (local xs run) ≡ local xs run
+  pub erase-unerased : run .end ≡ Unerased → eraseIn g i (local xs run) ≡ local xs (record { left = run .left; end = Unerased })
   unfolding eraseIn attempt
   erase-unerased e = rw e

@@ -126,6 +126,12 @@ pub unerased-halts : Halted Unerased
 unfolding Halted
 unerased-halts l l' = refl
 
+-- after a run that has ended
+pub halted-run : (g : Geometry) (k : ℕ) (u : Unit) (bs xs : List ℕ) (r : Run) (e : End) → Halted e → r .end ≡ e
+    → writeAllIn g u k bs (local xs r) ≡ local xs (record { left = r .left; end = e })
+halted-run g k u bs xs r e h told =
+    ap (λ (x : End). writeAllIn g u k bs (local xs (record { left = r .left; end = x }))) told ∙ halted-writes g k u bs xs (r .left) e h
+
 pub writes-at-once : (g : Geometry) (k : ℕ) (u : Unit) (bs xs : List ℕ) (b : ℕ)
     → writeAllIn g u k bs (local xs (going b)) ≡ wrote g u k bs xs b (min b k) (blankRun g u (min b k) xs)
 unfolding writeAllIn blankRun

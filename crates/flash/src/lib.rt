@@ -35,7 +35,8 @@ pub enum End {
     Unerased,
 }
 
-// What is left of the allowance, and how it stands.
+// What is left of the allowance, and how it stands. On the way of an exchange a Run is made of its two fields anew and not handed on
+// whole: the padding between would be stored and read back, and the reading waits for all the bytes that the copy stored before.
 pub struct Run {
     pub left: u64,
     pub end: End,
@@ -157,8 +158,14 @@ pub fn erase(g: Geometry, area: &mut [u8], i: Sector, run: Run) -> Run
                 end: End::Going,
             }
         }
-        End::Stopped => run,
-        End::Unerased => run,
+        End::Stopped => Run {
+            left: run.left,
+            end: End::Stopped,
+        },
+        End::Unerased => Run {
+            left: run.left,
+            end: End::Unerased,
+        },
     }
 }
 
@@ -239,8 +246,7 @@ fn settled(left: u64, units: usize, reached: usize, written: usize) -> Run
 }
 
 // Of the units of dst from to on, as many as are erased up to the first that is not are given the bytes of src from from on: one
-// measure of the erased run and one copy, which comes to the same as unit after unit. It passes numbers alone, and no Run: a Run that
-// goes through memory would be read back while the bytes of the copy still wait to be stored.
+// measure of the erased run and one copy, which comes to the same as unit after unit.
 fn write_erased(
     g: Geometry,
     src: &[u8],
@@ -298,7 +304,13 @@ pub fn write_units(
     let end = run.end;
     match end {
         End::Going => copy_units(g, src, from, dst, to, units, run.left),
-        End::Stopped => run,
-        End::Unerased => run,
+        End::Stopped => Run {
+            left: run.left,
+            end: End::Stopped,
+        },
+        End::Unerased => Run {
+            left: run.left,
+            end: End::Unerased,
+        },
     }
 }
