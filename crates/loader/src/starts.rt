@@ -56,9 +56,9 @@ fn decided(g: Geometry, slot0: &[u8], slot1: &[u8], scratch: &[u8]) -> Course
     requires { ⌜ Small g ⌝ }
     ensures { λ r. ⌜ (r ≡ decide accepted (build g) (flashOf (now (slot0 .entry)) (now (slot1 .entry)) (now (scratch .entry)))) × (inBounds (build g) r ≡ true) ⌝ }
 {
-    let asked = plan::decision::asks(g, slot0, slot1, scratch);
-    if plan::wants_check(asked) {
-        plan::judge(slot_accepted(g, slot1), asked)
+    let asked = decision::asks(g, slot0, slot1, scratch);
+    if course::wants_check(asked) {
+        course::judge(slot_accepted(g, slot1), asked)
     } else {
         asked
     }
@@ -126,8 +126,8 @@ fn take_course(
     let run = carry::carry_out(g, course, slot0, slot1, scratch, all);
     let end = run.end;
     Answer {
-        done: plan::done_of(course),
-        found: plan::found_of(course),
+        done: course::done_of(course),
+        found: course::found_of(course),
         count: allowance - run.left,
         outcome: outcome_of(g, slot0, end, checked),
     }

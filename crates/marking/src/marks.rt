@@ -76,9 +76,9 @@ fn is_unmarked(g: Geometry, slot1: &[u8]) -> bool
     requires { ⌜ Small g ⌝ }
     ensures { λ r. ⌜ r ≡ unmarked g (flashOf [] (now (slot1 .entry)) []) ⌝ }
 {
-    let t = trailer::reading::slot_trailer(g, slot1);
-    if trailer::asking::ok_unset(g, t) {
-        trailer::asking::magic_unset(g, t)
+    let t = trailer::slot_trailer(g, slot1);
+    if image_ok::ok_unset(g, t) {
+        magic::magic_unset(g, t)
     } else {
         false
     }
@@ -88,10 +88,10 @@ fn is_confirmable(g: Geometry, slot0: &[u8]) -> bool
     requires { ⌜ Small g ⌝ }
     ensures { λ r. ⌜ r ≡ confirmable g (flashOf (now (slot0 .entry)) [] []) ⌝ }
 {
-    let t = trailer::reading::slot_trailer(g, slot0);
-    if trailer::asking::magic_good(g, t) {
-        if trailer::asking::done_set(g, t) {
-            return trailer::asking::ok_unset(g, t);
+    let t = trailer::slot_trailer(g, slot0);
+    if magic::magic_good(g, t) {
+        if copy_done::done_set(g, t) {
+            return image_ok::ok_unset(g, t);
         }
     }
     false
@@ -134,7 +134,7 @@ pub fn mark_taken(
     requires { ⌜ Small g ⌝ }
     ensures { λ r. ⌜ markResult r (flashOf (now (slot0 .entry)) (now (slot1 .exit)) (now (scratch .entry))) ≡ unlessUnderWay (askedBy g (flashOf (now (slot0 .entry)) (now (slot1 .entry)) (now (scratch .entry)))) (flashOf (now (slot0 .entry)) (now (slot1 .entry)) (now (scratch .entry))) (markUnlessMarked permanent g (flashOf (now (slot0 .entry)) (now (slot1 .entry)) (now (scratch .entry)))) ⌝ }
 {
-    let course = plan::decision::asks(g, slot0, slot1, scratch);
+    let course = decision::asks(g, slot0, slot1, scratch);
     match standing_of(course) {
         Standing::Free => mark_free(g, slot1, permanent),
         Standing::Refused(refusal) => refuse(refusal),
@@ -162,7 +162,7 @@ pub fn confirm_taken(g: Geometry, slot0: &mut [u8], slot1: &[u8], scratch: &[u8]
     requires { ⌜ Small g ⌝ }
     ensures { λ r. ⌜ markResult r (flashOf (now (slot0 .exit)) (now (slot1 .entry)) (now (scratch .entry))) ≡ unlessUnderWay (askedBy g (flashOf (now (slot0 .entry)) (now (slot1 .entry)) (now (scratch .entry)))) (flashOf (now (slot0 .entry)) (now (slot1 .entry)) (now (scratch .entry))) (confirmIfNeeded g (flashOf (now (slot0 .entry)) (now (slot1 .entry)) (now (scratch .entry)))) ⌝ }
 {
-    let course = plan::decision::asks(g, slot0, slot1, scratch);
+    let course = decision::asks(g, slot0, slot1, scratch);
     match standing_of(course) {
         Standing::Free => confirm_free(g, slot0),
         Standing::Refused(refusal) => refuse(refusal),

@@ -103,6 +103,6 @@ pub fn data_exchange(
     ensures { λ r. ⌜ state (now (slot0 .exit)) (now (slot1 .exit)) (now (scratch .exit)) r ≡ steps (build g) (dataOps (build g) c (drop (c - 3) (allMoves (g .sectors - 1)))) (state (now (slot0 .entry)) (now (slot1 .entry)) (now (scratch .entry)) run) ⌝ }
 {
     let moved = moves_from(g, c, slot0, slot1, scratch, run);
-    let at = trailer::places::done_place(g);
+    let at = copy_done::done_place(g);
     writes::write_mark(g, slot0, Sector(g.sectors - 1), at, 1, moved)
 }

@@ -1,6 +1,4 @@
 pub mod Trailer
-pub mod PlaceLaws
-pub mod ReadLaws
-pub mod RunLaws
 pub mod MarkOrder
 pub mod MarkRun
+pub mod CutLaws

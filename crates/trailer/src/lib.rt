@@ -1,10 +1,12 @@
 ghost use mathlib.Core.Path.{_≡_};
-ghost use Rattle.trailer.specs.Trailer.{isGood, noMagic, isUnset, hasValue};
-
-pub mod asking;
-pub mod places;
-pub mod reading;
-pub mod run;
+ghost use Prim.Native.Nat.{_≤_};
+ghost use lib.ListN.{drop};
+ghost use Rattle.flash.specs.Geometry.{startOf};
+ghost use Rattle.flash.specs.Build.{slot0, scratch, trailerSector};
+ghost use Rattle.flash.specs.Base.{build};
+ghost use Rattle.flash.specs.Small.{Small};
+use flash::Geometry;
+use flash::Sector;
 
 // What stands in the place of the magic words.
 pub enum Magic {
@@ -20,42 +22,28 @@ pub enum Mark {
     Bad,
 }
 
-pub fn is_good(m: Magic) -> bool
-    ensures { λ r. ⌜ r ≡ isGood m ⌝ }
+// The bytes of an area from a sector on: for its last sector, the bytes of that.
+fn from_sector(g: Geometry, area: &[u8], i: Sector) -> &[u8]
+    requires { ⌜ Small g ⌝ }
+    requires { ⌜ i .0 ≤ 128 ⌝ }
+    ensures { λ r. ⌜ now r ≡ drop (startOf g i .0) (now (area .entry)) ⌝ }
 {
-    match m {
-        Magic::Good => true,
-        Magic::Unset => false,
-        Magic::Bad => false,
-    }
+    let place = flash::start_of(g, i);
+    let at = spans::least(place.0, area.len());
+    &area[at..]
 }
 
-pub fn no_magic(m: Magic) -> bool
-    ensures { λ r. ⌜ r ≡ noMagic m ⌝ }
+// The bytes of a slot's trailer sector, and of scratch's.
+pub fn slot_trailer(g: Geometry, slot: &[u8]) -> &[u8]
+    requires { ⌜ Small g ⌝ }
+    ensures { λ r. ⌜ now r ≡ drop (startOf g (trailerSector (build g) slot0) .0) (now (slot .entry)) ⌝ }
 {
-    match m {
-        Magic::Good => false,
-        Magic::Unset => true,
-        Magic::Bad => false,
-    }
+    from_sector(g, slot, Sector(g.sectors - 1))
 }
 
-pub fn is_unset(m: Mark) -> bool
-    ensures { λ r. ⌜ r ≡ isUnset m ⌝ }
+pub fn scratch_trailer(g: Geometry, area: &[u8]) -> &[u8]
+    requires { ⌜ Small g ⌝ }
+    ensures { λ r. ⌜ now r ≡ drop (startOf g (trailerSector (build g) scratch) .0) (now (area .entry)) ⌝ }
 {
-    match m {
-        Mark::Unset => true,
-        Mark::Value(_) => false,
-        Mark::Bad => false,
-    }
-}
-
-pub fn has_value(want: u8, m: Mark) -> bool
-    ensures { λ r. ⌜ r ≡ hasValue want m ⌝ }
-{
-    match m {
-        Mark::Unset => false,
-        Mark::Value(v) => v == want,
-        Mark::Bad => false,
-    }
+    from_sector(g, area, Sector(1))
 }
