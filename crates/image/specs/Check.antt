@@ -6,9 +6,9 @@ use lib.ListN.{length, take}
 use lib.Dec.{ltb, eqb}
 use Rattle.spans.specs.Bytes.{part, same}
 use Rattle.spans.specs.Choice.{pick}
-use Rattle.sha256.specs.Fips.{sha256}
+use Rattle.fips.specs.Fips.{sha256}
 use Rattle.image.specs.Header.{magicNumber, headerMagic, recordsSize, headerSize, bodySize, imageSize}
-use Rattle.image.specs.Records.{Split, Place, records, digests}
+use Rattle.records.specs.Records.{Split, Place, records, digests}
 use Rattle.image.specs.declared.Cause.{Cause}
 use Rattle.image.specs.declared.Cause.the-variants.{HeaderMagic, HeaderSizes, RecordsArea, DigestRecord, DigestDiffers}
 use Rattle.image.specs.declared.Header.{Header}

@@ -7,7 +7,7 @@ use lib.ListN.{length, take, drop}
 use native.Mathlib.Nat.{add-sub-cancel-left}
 use mathlib.Core.Bool.{true, false}
 use Rattle.spans.specs.Bytes.{part, same}
-use Rattle.sha256.specs.Fips.{sha256}
+use Rattle.fips.specs.Fips.{sha256}
 use Rattle.image.specs.Header.{magicNumber, headerMagic, recordsSize, headerSize, bodySize, imageSize}
 use Rattle.image.specs.Check.{sizes, head, digestAt}
 use Rattle.image.specs.declared.Cause.the-variants.{HeaderMagic, HeaderSizes, DigestDiffers}

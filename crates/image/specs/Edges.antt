@@ -5,8 +5,9 @@ use mathlib.Core.List.{List, [], _∷_, _++_, map}
 use Prim.Native.Nat.{ℕ}
 use lib.ListN.{replicate}
 use Rattle.spans.specs.Bytes.{part}
-use Rattle.image.specs.Header.{little, field, headerMagic, recordsSize, headerSize, bodySize, coveredSize, imageSize}
-use Rattle.image.specs.Records.{recordAt, stepAt, after, recordOf, firstThen, splitIn, records, digests}
+use Rattle.fields.specs.Fields.{little, field}
+use Rattle.image.specs.Header.{headerMagic, recordsSize, headerSize, bodySize, coveredSize, imageSize}
+use Rattle.records.specs.Records.{recordAt, stepAt, after, recordOf, firstThen, splitIn, records, digests}
 use Rattle.image.specs.Check.{sizes, head, oneDigest, filled, layoutOf, withSizes, structure}
 use Rattle.image.specs.declared.Cause.the-variants.{HeaderSizes, RecordsArea, DigestRecord}
 use Rattle.image.specs.declared.Layout.{Layout}

@@ -1,16 +1,8 @@
 -- Document 01, "Image": the header's fields, the three sizes, and the area of the trailing records.
-use mathlib.Core.List.{List, [], _∷_}
-use Prim.Native.Nat.{ℕ, _+_, _*_}
+use mathlib.Core.List.{List}
+use Prim.Native.Nat.{ℕ, _+_}
 use Rattle.spans.specs.Bytes.{part}
-
--- "All fields little endian": the number that bytes stand for, the lowest first
-unfoldable pub little : List ℕ → ℕ
-little [] = 0
-little (b ∷ bs) = b + 256 * little bs
-
--- a field of so many bytes at a place
-unfoldable pub field : List ℕ → ℕ → ℕ → ℕ
-field xs at size = little (part xs at size)
+use Rattle.fields.specs.Fields.{field}
 
 -- "magic 96f3b83c at 0"
 abbrev pub magicNumber : ℕ

@@ -5,9 +5,10 @@ use Prim.Native.Nat.{ℕ, _≤_, _<_}
 use lib.Dec.{eqb}
 use lib.ListN.{length, take}
 use Rattle.spans.specs.Choice.{pick}
-use Rattle.sha256.specs.Fips.{sha256}
-use Rattle.image.specs.Header.{little, magicNumber, headerMagic, recordsSize, headerSize, bodySize, coveredSize, imageSize, recordsArea}
-use Rattle.image.specs.Records.{Trailing}
+use Rattle.fips.specs.Fips.{sha256}
+use Rattle.fields.specs.Fields.{little}
+use Rattle.image.specs.Header.{magicNumber, headerMagic, recordsSize, headerSize, bodySize, coveredSize, imageSize, recordsArea}
+use Rattle.records.specs.Records.{Trailing}
 use Rattle.image.specs.declared.Cause.the-variants.{HeaderMagic, HeaderSizes, RecordsArea, DigestRecord, DigestDiffers}
 use Rattle.image.specs.declared.Verdict.{Verdict}
 use Rattle.image.specs.declared.Verdict.the-variants.{Accepted, Rejected}

@@ -8,12 +8,12 @@ use native.Mathlib.Omega.{arith}
 use lib.ListN.{length, drop, length-append, take-append-drop}
 use lib.Seq.{drop-drop, drop-append-seam, drop-append-add, take-append-seam}
 use Rattle.spans.specs.Bytes.{part}
-use Rattle.image.specs.Header.{little, field}
-use Rattle.image.specs.Records.{Trailing, Split, Place, stepAt, after, recordOf, firstThen, splitIn, records, digests}
-use Rattle.image.specs.RecordLaws.{Stands, stands, step-record, records-step, record-sized}
+use Rattle.fields.specs.Fields.{little, field}
+use Rattle.records.specs.Records.{Trailing, Split, Place, stepAt, after, recordOf, firstThen, splitIn, records, digests}
+use Rattle.records.specs.RecordLaws.{Stands, stands, step-record, records-step, record-sized}
 use Rattle.image.specs.Image.{laidOne, laid, Told, ofType}
-use Rattle.image.specs.declared.Step.{Step}
-use Rattle.image.specs.declared.Step.the-variants.{End, Stump, Record}
+use Rattle.records.specs.declared.Step.{Step}
+use Rattle.records.specs.declared.Step.the-variants.{End, Stump, Record}
 
 -- the first record, and the rest of the area
 first-laid : (xs : List ℕ) (size : ℕ) → 4 + size ≤ length xs → laidOne (recordOf xs size) ++ drop (4 + size) xs ≡ xs

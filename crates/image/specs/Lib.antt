@@ -1,13 +1,9 @@
 pub mod Header
-pub mod Records
 pub mod Check
 pub mod Image
 pub mod Edges
-pub mod HeaderLaws
-pub mod RecordLaws
-pub mod WalkLaws
 pub mod LaidLaws
+pub mod LayoutLaws
 pub mod CheckLaws
 pub mod StructureLaws
 pub mod Theorem
-pub mod Reading

@@ -12,10 +12,10 @@ use lib.Seq.{drop-drop, length-take-le}
 use Rattle.spans.specs.Bytes.{part}
 use Rattle.spans.specs.Choice.{pick}
 use Rattle.image.specs.Header.{magicNumber, headerMagic, recordsSize, headerSize, bodySize, coveredSize, imageSize, recordsArea}
-use Rattle.image.specs.Records.{Trailing, Split, Place, records, digests}
+use Rattle.records.specs.Records.{Trailing, Split, Place, records, digests}
 use Rattle.image.specs.Check.{head, oneDigest, filled, layoutOf, withSizes, structure}
 use Rattle.image.specs.Image.{laid, ofType, GoodHeader, Fills, OneDigest}
-use Rattle.image.specs.RecordLaws.{less}
+use Rattle.records.specs.RecordLaws.{less}
 use Rattle.image.specs.LaidLaws.{Begins, begins, as-laid, Placed, placed}
 use Rattle.image.specs.CheckLaws.{sizes-small, sizes-above, sizes-good, head-short, head-other, head-known}
 use Rattle.image.specs.declared.Cause.{Cause}

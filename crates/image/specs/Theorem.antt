@@ -10,13 +10,14 @@ use lib.Seq.{drop-append-le, take-append-le, length-take-le, take-add, drop-at, 
 use Rattle.spans.specs.Bytes.{part, same}
 use Rattle.spans.specs.Choice.{pick}
 use Rattle.spans.specs.Laws.{length-part, same-refl, same-eq}
-use Rattle.sha256.specs.Fips.{sha256}
-use Rattle.image.specs.Header.{field, headerMagic, recordsSize, headerSize, bodySize, coveredSize, imageSize, recordsArea}
-use Rattle.image.specs.Records.{Trailing, Split, records}
+use Rattle.fips.specs.Fips.{sha256}
+use Rattle.fields.specs.Fields.{field}
+use Rattle.image.specs.Header.{headerMagic, recordsSize, headerSize, bodySize, coveredSize, imageSize, recordsArea}
+use Rattle.records.specs.Records.{Trailing, Split, records}
 use Rattle.image.specs.Check.{head, structure, digestAt, check}
 use Rattle.image.specs.Image.{laid, ofType, Image, GoodHeader, Fills, OneDigest, When}
 use Rattle.image.specs.LaidLaws.{as-laid}
-use Rattle.image.specs.RecordLaws.{less}
+use Rattle.records.specs.RecordLaws.{less}
 use Rattle.image.specs.CheckLaws.{sizes-small, sizes-above, head-short, head-other, head-known, digest-same, digest-other}
 use Rattle.image.specs.StructureLaws.{Heads, heads, Comes, Stands, comes, cut, structure-bad}
 use Rattle.image.specs.declared.Cause.{Cause}

@@ -2,12 +2,11 @@
 pub mod reader;
 
 ghost use mathlib.Core.Path.{_≡_};
-ghost use Prim.Native.Nat.{ℕ, _+_, _^_, _<_, _≤_};
+ghost use Prim.Native.Nat.{_+_, _^_, _<_, _≤_};
 ghost use lib.ListN.{length};
-ghost use Rattle.image.specs.Header.{field};
-ghost use Rattle.image.specs.Records.{stepAt, records};
-ghost use Rattle.image.specs.WalkLaws.{Walked, walked, placeOrCause};
+ghost use Rattle.records.specs.Records.{records};
 ghost use Rattle.image.specs.Check.{numberOf, causeOf, sizes, head, layoutOf, structure, digestAt, check};
+pub use records::Step;
 
 // Why an image is rejected; specs/Check.antt gives the numbers.
 pub enum Cause {
@@ -39,40 +38,13 @@ pub enum Layout {
     Sound { covered: usize, digest: usize },
 }
 
-// What stands at a place of an area of records: nothing more, bytes that make no whole record, or a record, whose size bytes begin at start.
-pub enum Step {
-    End,
-    Stump,
-    Record { kind: u8, start: usize, size: usize },
-}
-
-fn wide(b: u8) -> usize
-    ensures { λ r. ⌜ (r ≡ b) × (r < 256) ⌝ }
-{
-    b as usize
-}
-
-fn two(s: &[u8], at: usize) -> usize
-    requires { ⌜ at + 2 ≤ length (now s) ⌝ }
-    ensures { λ r. ⌜ (r ≡ field (now (s .entry)) at 2) × (r < 65536) ⌝ }
-{
-    wide(s[at]) + wide(s[at + 1]) * 256
-}
-
-fn four(s: &[u8], at: usize) -> usize
-    requires { ⌜ at + 4 ≤ length (now s) ⌝ }
-    ensures { λ r. ⌜ (r ≡ field (now (s .entry)) at 4) × (r < 4294967296) ⌝ }
-{
-    two(s, at) + two(s, at + 2) * 65536
-}
-
 fn sizes(image: &[u8]) -> Header
     requires { ⌜ 32 ≤ length (now image) ⌝ }
     ensures { λ r. ⌜ r ≡ sizes (now (image .entry)) ⌝ }
 {
-    let records = two(image, 4);
-    let header = two(image, 8);
-    let body = four(image, 12);
+    let records = fields::two(image, 4);
+    let header = fields::two(image, 8);
+    let body = fields::four(image, 12);
     if header < 32 {
         return Header::Bad(Cause::HeaderSizes);
     }
@@ -93,77 +65,10 @@ pub fn head(image: &[u8]) -> Header
     if image.len() < 32 {
         return Header::Bad(Cause::HeaderSizes);
     }
-    if four(image, 0) == 2532554812 {
+    if fields::four(image, 0) == 2532554812 {
         sizes(image)
     } else {
         Header::Bad(Cause::HeaderMagic)
-    }
-}
-
-// What stands at a place of an area of records. The walk and the reader both go by it.
-pub fn step_at(area: &[u8], at: usize) -> Step
-    ensures { λ r. ⌜ r ≡ stepAt (now (area .entry)) at ⌝ }
-{
-    if area.len() <= at {
-        return Step::End;
-    }
-    let left = area.len() - at;
-    if left < 4 {
-        return Step::Stump;
-    }
-    let size = two(area, at + 2);
-    if left - 4 < size {
-        return Step::Stump;
-    }
-    Step::Record {
-        kind: area[at],
-        start: at + 4,
-        size,
-    }
-}
-
-// Cause 4, where the records fill their area: the place of the one digest of 32 bytes, or 4.
-fn only_digest(digests: usize, place: usize, size: usize) -> usize
-    ensures { λ r. ⌜ r ≡ placeOrCause (Walked.Filled digests place size) ⌝ }
-{
-    if digests == 1 {
-        if size == 32 {
-            return place;
-        }
-    }
-    4
-}
-
-// Causes 3 and 4: the first record, and then the rest of the area by the same rule. The area stands at `at` of the image; of the records
-// before it, digests were of type 1, and the last of those has its size bytes at place. The answer is one number, the digest's place or
-// the cause, and the rest of the area is lent on in the caller's place: so the compiler needs no stack for a record.
-fn walk<'r, 'a>(
-    area: &'r mut &'a [u8],
-    at: usize,
-    digests: usize,
-    place: usize,
-    size: usize,
-) -> usize
-    requires { ⌜ (digests ≤ at) × (at + length (now (now area)) < 2 ^ 64) ⌝ }
-    ensures { λ r. ⌜ r ≡ placeOrCause (walked (records (now (now (area .entry)))) at digests place size) ⌝ }
-{
-    let all = *area;
-    match step_at(all, 0) {
-        Step::End => only_digest(digests, place, size),
-        Step::Stump => 3,
-        Step::Record {
-            kind,
-            start,
-            size: length,
-        } => {
-            let next = start + length;
-            *area = &all[next..];
-            if kind == 1 {
-                walk(area, at + next, digests + 1, at + start, length)
-            } else {
-                walk(area, at + next, digests, place, size)
-            }
-        }
     }
 }
 
@@ -172,8 +77,7 @@ fn layout_of(area: &[u8], covered: usize) -> Layout
     requires { ⌜ (32 ≤ covered) × (covered + length (now area) < 2 ^ 64) ⌝ }
     ensures { λ r. ⌜ r ≡ layoutOf covered (records (now (area .entry))) ⌝ }
 {
-    let mut rest = area;
-    match walk(&mut rest, covered, 0, 0, 0) {
+    match records::digest_place(area, covered) {
         3 => Layout::Wrong(Cause::RecordsArea),
         4 => Layout::Wrong(Cause::DigestRecord),
         digest => Layout::Sound { covered, digest },

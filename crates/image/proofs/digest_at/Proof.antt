@@ -1,7 +1,7 @@
 use mathlib.Core.Path.{sym, ap, _∙_}
 use native.Mathlib.Nat.{sub-zero}
 use lib.ListN.{length, take}
-use Rattle.sha256.specs.Laws.{length-sha256}
+use Rattle.fips.specs.Laws.{length-sha256}
 use Rattle.image.specs.CheckLaws.{digest-same, digest-other}
 use borrow.Author.Needs.{needs}
 use Rattle.image.proofs.digest_at.Statement.{statement}

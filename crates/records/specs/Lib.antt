@@ -1,0 +1,4 @@
+pub mod Records
+pub mod RecordLaws
+pub mod Walk
+pub mod WalkLaws
