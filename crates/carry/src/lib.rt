@@ -29,10 +29,10 @@ fn lines_three_to_six(
     ensures { λ r. ⌜ state (now (slot0 .exit)) (now (slot1 .exit)) (now (scratch .exit)) r ≡ steps (build g) (linesThreeToSix (build g) lasting) (state (now (slot0 .entry)) (now (slot1 .entry)) (now (scratch .entry)) run) ⌝ }
 {
     let last = g.sectors - 1;
-    let three = flash::erase(g, slot1, Sector(last), run);
-    let four = flash::erase(g, slot0, Sector(last), three);
+    let three = operations::erase(g, slot1, Sector(last), run);
+    let four = operations::erase(g, slot0, Sector(last), three);
     let five = lines::line_five(g, slot0, lasting, four);
-    flash::erase(g, scratch, Sector(1), five)
+    operations::erase(g, scratch, Sector(1), five)
 }
 
 // The trailer exchange from its third line on, and the data exchange.
@@ -74,7 +74,7 @@ fn clear_out(g: Geometry, slot0: &mut [u8], slot1: &mut [u8], unset: bool, run: 
     let last = g.sectors - 1;
     let sectors = lines::erase_sectors(g, slot1, last, run);
     let ok = writes::write_ok(g, slot0, Sector(last), unset, sectors);
-    flash::erase(g, slot1, Sector(last), ok)
+    operations::erase(g, slot1, Sector(last), ok)
 }
 
 // Whether slot 0's image ok is Unset, for the clear-out.

@@ -5,8 +5,5 @@ pub mod BaseLaws
 pub mod Operations
 pub mod Harm
 pub mod Small
-pub mod Taken
 pub mod AreaLaws
-pub mod EraseLaws
-pub mod UnitLaws
 pub mod OperationLaws

@@ -24,7 +24,7 @@ pub fn lines_one_two(g: Geometry, scratch: &mut [u8], lasting: bool, run: Run) -
     requires { ⌜ Small g ⌝ }
     ensures { λ r. ⌜ local (now (scratch .exit)) r ≡ linesOneTwoIn g (trailerSector (build g) Area.scratch) lasting (local (now (scratch .entry)) run) ⌝ }
 {
-    let erased = flash::erase(g, scratch, Sector(1), run);
+    let erased = operations::erase(g, scratch, Sector(1), run);
     let ok = writes::write_ok(g, scratch, Sector(1), lasting, erased);
     writes::write_magic(g, scratch, Sector(1), ok)
 }
@@ -59,7 +59,7 @@ pub fn erase_sectors(g: Geometry, area: &mut [u8], count: usize, run: Run) -> Ru
     let mut r = run;
     let mut i = 0;
     while i < count {
-        r = flash::erase(g, area, Sector(i), r);
+        r = operations::erase(g, area, Sector(i), r);
         i += 1;
     }
     r

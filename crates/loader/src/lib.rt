@@ -20,7 +20,7 @@ pub fn full_start(
 ) -> Answer
     ensures { λ r. ⌜ result r (flashOf (now (slot0 .exit)) (now (slot1 .exit)) (now (scratch .exit))) ≡ fullStart checked g allowance (flashOf (now (slot0 .entry)) (now (slot1 .entry)) (now (scratch .entry))) ⌝ }
 {
-    if flash::taken(g, slot0.len(), slot1.len(), scratch.len()) {
+    if fit::taken(g, slot0.len(), slot1.len(), scratch.len()) {
         starts::start_taken(g, slot0, slot1, scratch, allowance, checked)
     } else {
         starts::refuse(Refusal::Geometry)

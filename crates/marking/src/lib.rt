@@ -13,7 +13,7 @@ mod marks;
 pub fn mark(g: Geometry, slot0: &[u8], slot1: &mut [u8], scratch: &[u8], permanent: bool) -> Marked
     ensures { λ r. ⌜ markResult r (flashOf (now (slot0 .entry)) (now (slot1 .exit)) (now (scratch .entry))) ≡ marking permanent g (flashOf (now (slot0 .entry)) (now (slot1 .entry)) (now (scratch .entry))) ⌝ }
 {
-    if flash::taken(g, slot0.len(), slot1.len(), scratch.len()) {
+    if fit::taken(g, slot0.len(), slot1.len(), scratch.len()) {
         marks::mark_taken(g, slot0, slot1, scratch, permanent)
     } else {
         marks::refuse(Refusal::Geometry)
@@ -24,7 +24,7 @@ pub fn mark(g: Geometry, slot0: &[u8], slot1: &mut [u8], scratch: &[u8], permane
 pub fn confirm(g: Geometry, slot0: &mut [u8], slot1: &[u8], scratch: &[u8]) -> Marked
     ensures { λ r. ⌜ markResult r (flashOf (now (slot0 .exit)) (now (slot1 .entry)) (now (scratch .entry))) ≡ confirming g (flashOf (now (slot0 .entry)) (now (slot1 .entry)) (now (scratch .entry))) ⌝ }
 {
-    if flash::taken(g, slot0.len(), slot1.len(), scratch.len()) {
+    if fit::taken(g, slot0.len(), slot1.len(), scratch.len()) {
         marks::confirm_taken(g, slot0, slot1, scratch)
     } else {
         marks::refuse(Refusal::Geometry)

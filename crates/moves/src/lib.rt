@@ -21,10 +21,10 @@ fn move_sector(g: Geometry, src: &[u8], from: Sector, dst: &mut [u8], to: Sector
     requires { ⌜ (from .0 ≤ 127) × (to .0 ≤ 127) ⌝ }
     ensures { λ r. ⌜ local (now (dst .exit)) r ≡ moveIn g (now (src .entry)) from to (local (now (dst .entry)) run) ⌝ }
 {
-    let erased = flash::erase(g, dst, to, run);
+    let erased = operations::erase(g, dst, to, run);
     let at = flash::place_of(g, flash::first_unit(g, from));
     let u = flash::first_unit(g, to);
-    flash::write_units(g, src, at, dst, u, g.sector / g.unit, erased)
+    operations::write_units(g, src, at, dst, u, g.sector / g.unit, erased)
 }
 
 // The move whose mark has number k, without its mark.

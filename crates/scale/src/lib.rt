@@ -6,7 +6,7 @@ ghost use Rattle.loader.specs.PowerUp.{fullStart, powerUp};
 ghost use Rattle.plan.specs.Asked.{flashOf};
 ghost use Rattle.answers.specs.Numbers.{answerNumbers, markedNumbers};
 ghost use Rattle.scale.specs.Boundary.{geometryOf};
-ghost use Rattle.sha256.specs.Fips.{sha256};
+ghost use Rattle.fips.specs.Fips.{sha256};
 use answers::numbers;
 use answers::numbers::MarkNumbers;
 use answers::numbers::Numbers;

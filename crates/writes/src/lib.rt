@@ -31,7 +31,7 @@ pub fn write_mark(g: Geometry, area: &mut [u8], i: Sector, at: Offset, value: u8
 {
     let u = unit_in(g, i, at);
     let bytes = [value, 255, 255, 255, 255, 255, 255, 255];
-    flash::write_units(g, &bytes, Offset(0), area, u, 1, run)
+    operations::write_units(g, &bytes, Offset(0), area, u, 1, run)
 }
 
 // Progress mark number k, in slot 0.
@@ -67,5 +67,5 @@ pub fn write_magic(g: Geometry, area: &mut [u8], i: Sector, run: Run) -> Run
     let at = magic::magic_place(g);
     let u = unit_in(g, i, at);
     let bytes = magic::magic_bytes();
-    flash::write_units(g, &bytes, Offset(0), area, u, 16 / g.unit, run)
+    operations::write_units(g, &bytes, Offset(0), area, u, 16 / g.unit, run)
 }

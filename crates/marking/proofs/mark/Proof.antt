@@ -6,7 +6,7 @@ use lib.ListN.{length}
 use Rattle.spans.specs.Choice.{pick}
 use Rattle.flash.specs.Build.{fits, valid}
 use Rattle.flash.specs.Base.{build}
-use Rattle.flash.specs.Taken.{small-fits}
+use Rattle.fit.specs.Taken.{small-fits}
 use Rattle.plan.specs.Asked.{flashOf, askedBy}
 use Rattle.answers.specs.declared.Refusal.{Refusal}
 use borrow.Author.Needs.{needs}

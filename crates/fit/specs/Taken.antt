@@ -1,0 +1,70 @@
+-- The questions that `fits` asks of the base build, in the three parts in which code asks them, and the bounds that follow.
+use mathlib.Core.Path.{_≡_, refl, sym, _∙_}
+use mathlib.Core.List.{List, [], _∷_}
+use mathlib.Core.Bool.{Bool, true, false, _&&_, false≢true, _||_}
+use Prim.Native.Nat.{ℕ, _+_, _*_, _%_, _≤_, _<_}
+use native.Mathlib.Omega.{arith}
+use lib.Dec.{eqb, leb}
+use borrow.Author.Tests.{eqb-true, leb-true}
+use Rattle.spans.specs.Choice.{every, both}
+use Rattle.flash.specs.declared.Geometry.{Geometry}
+use Rattle.flash.specs.Build.{asked, fits}
+use Rattle.flash.specs.Base.{base, build}
+use Rattle.flash.specs.Small.{Small}
+
+unfoldable pub unitAsked : ℕ → Bool
+unitAsked w = eqb w 1 || eqb w 2 || eqb w 4 || eqb w 8
+
+unfoldable pub sizesAsked : Geometry → List Bool
+sizesAsked g =
+    eqb (g .sector % g .unit) 0 ∷ leb (384 * g .unit + 32) (g .sector) ∷ leb (g .sector) 65536 ∷ leb 2 (g .sectors) ∷ leb
+    (g .sectors) 128 ∷ []
+
+unfoldable pub lengthsAsked : Geometry → ℕ → ℕ → ℕ → List Bool
+lengthsAsked g l0 l1 l2 = eqb l0 (g .sectors * g .sector) ∷ eqb l1 (g .sectors * g .sector) ∷ eqb l2 (2 * g .sector) ∷ []
+
+and-assoc : (a b c : Bool) → ((a && b) && c) ≡ (a && (b && c))
+and-assoc true b c = refl
+and-assoc false b c = refl
+
+pub and-true : (a : Bool) → (a && true) ≡ a
+and-true true = refl
+and-true false = refl
+
+pub in-parts : (g : Geometry) (l0 l1 l2 : ℕ)
+    → fits (build g) l0 l1 l2 ≡ (unitAsked (g .unit) && (every (sizesAsked g) && every (lengthsAsked g l0 l1 l2)))
+unfolding fits asked base unitAsked sizesAsked lengthsAsked every
+in-parts g l0 l1 l2 = simp and-assoc
+
+pub unit-bounds : (w : ℕ) → unitAsked w ≡ true → (0 < w) × (w ≤ 8)
+unfolding unitAsked
+unit-bounds w h = go (eqb w 1) (eqb w 2) (eqb w 4) (eqb w 8) refl refl refl refl h
+  where
+    go : (a b c d : Bool) → eqb w 1 ≡ a → eqb w 2 ≡ b → eqb w 4 ≡ c → eqb w 8 ≡ d → (a || b || c || d) ≡ true → (0 < w) × (w ≤ 8)
+    go true b c d p q r s t = (omega (arith, eqb-true w 1 p), omega (arith, eqb-true w 1 p))
+    go false true c d p q r s t = (omega (arith, eqb-true w 2 q), omega (arith, eqb-true w 2 q))
+    go false false true d p q r s t = (omega (arith, eqb-true w 4 r), omega (arith, eqb-true w 4 r))
+    go false false false true p q r s t = (omega (arith, eqb-true w 8 s), omega (arith, eqb-true w 8 s))
+    go false false false false p q r s t = absurd (false≢true t)
+
+pub small : (g : Geometry) → unitAsked (g .unit) ≡ true → every (sizesAsked g) ≡ true → Small g
+unfolding sizesAsked every
+small g u h =
+    let b₁ = both (eqb (g .sector % g .unit) 0) _ h in
+    let b₂ = both (leb (384 * g .unit + 32) (g .sector)) _ (b₁ .1) in
+    let b₃ = both (leb (g .sector) 65536) _ (b₂ .1) in
+    let b₄ = both (leb 2 (g .sectors)) _ (b₃ .1) in
+    let b₅ = both (leb (g .sectors) 128) true (b₄ .1) in
+    record {
+      positive = unit-bounds (g .unit) u .0;
+      eight = unit-bounds (g .unit) u .1;
+      room = leb-true (384 * g .unit + 32) (g .sector) (b₂ .0);
+      large = leb-true (g .sector) 65536 (b₃ .0);
+      two = leb-true 2 (g .sectors) (b₄ .0);
+      many = leb-true (g .sectors) 128 (b₅ .0);
+    }
+
+pub small-fits : (g : Geometry) (l0 l1 l2 : ℕ) → fits (build g) l0 l1 l2 ≡ true → Small g
+small-fits g l0 l1 l2 h =
+    let k = both (unitAsked (g .unit)) _ (sym (in-parts g l0 l1 l2) ∙ h) in
+    small g (k .0) (both (every (sizesAsked g)) _ (k .1) .0)
