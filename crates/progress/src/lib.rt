@@ -1,6 +1,6 @@
 // The run of progress marks in the trailer sector t of slot 0, in reading order.
 ghost use mathlib.Core.Path.{_≡_};
-ghost use Prim.Native.Nat.{_+_, _*_, _<_, _%_};
+ghost use Prim.Native.Nat.{_*_, _<_};
 ghost use Rattle.flash.specs.Base.{build};
 ghost use Rattle.flash.specs.Small.{Small};
 ghost use Rattle.trailer.specs.Trailer.{markAt, markOf, isUnset, written, legal};
@@ -21,27 +21,12 @@ pub fn mark_place(g: Geometry, k: usize) -> Offset
     Offset(g.sector - 32 - 3 * g.sectors * g.unit + k * g.unit)
 }
 
-// The value that mark number k is written with.
-fn mark_value(k: usize) -> u8
-    ensures { λ r. ⌜ r ≡ 1 + k % 3 ⌝ }
-{
-    1 + (k % 3) as u8
-}
-
 fn progress_mark(g: Geometry, t: &[u8], k: usize) -> Mark
     requires { ⌜ Small g ⌝ }
     requires { ⌜ k < 3 * g .sectors ⌝ }
     ensures { λ r. ⌜ r ≡ markOf (build g) (now (t .entry)) (markAt (build g) k) ⌝ }
 {
     mark_in(g, t, mark_place(g, k))
-}
-
-fn mark_missing(g: Geometry, t: &[u8], k: usize) -> bool
-    requires { ⌜ Small g ⌝ }
-    requires { ⌜ k < 3 * g .sectors ⌝ }
-    ensures { λ r. ⌜ r ≡ isUnset (markOf (build g) (now (t .entry)) (markAt (build g) k)) ⌝ }
-{
-    is_unset(progress_mark(g, t, k))
 }
 
 // How many marks stand before the first that is Unset.
@@ -52,7 +37,7 @@ pub fn written_marks(g: Geometry, t: &[u8]) -> usize
     let all = 3 * g.sectors;
     let mut k = 0;
     while k < all {
-        if mark_missing(g, t, k) {
+        if is_unset(progress_mark(g, t, k)) {
             return k;
         }
         k += 1;
@@ -60,7 +45,7 @@ pub fn written_marks(g: Geometry, t: &[u8]) -> usize
     k
 }
 
-// Whether mark number k is as a run of c marks has it.
+// Whether mark number k is as a run of c marks has it: 01, 02 and 03 in turn, then Unset.
 fn mark_fits(g: Geometry, t: &[u8], c: usize, k: usize) -> bool
     requires { ⌜ Small g ⌝ }
     requires { ⌜ k < 3 * g .sectors ⌝ }
@@ -68,7 +53,7 @@ fn mark_fits(g: Geometry, t: &[u8], c: usize, k: usize) -> bool
 {
     let m = progress_mark(g, t, k);
     if k < c {
-        has_value(mark_value(k), m)
+        has_value(1 + (k % 3) as u8, m)
     } else {
         is_unset(m)
     }

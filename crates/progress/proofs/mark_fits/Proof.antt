@@ -1,5 +1,6 @@
-use mathlib.Core.Path.{_≡_, ap, ap₂, _∙_}
+use mathlib.Core.Path.{_≡_, ap, _∙_}
 use mathlib.Core.Bool.{true, false}
+use Prim.Native.Nat.{_+_, _%_}
 use Rattle.flash.specs.Base.{base}
 use Rattle.trailer.specs.Trailer.{isUnset, hasValue}
 use lib.Dec.{ltb}
@@ -11,8 +12,11 @@ use Rattle.progress.proofs.mark_fits.Tie as tie
 progress-mark-requires : tie.Need-progress-mark-requires
 progress-mark-requires c κs = search needs
 
-mark-value-requires : tie.Need-mark-value-requires
-mark-value-requires c κs = search needs
+cast-has-value : tie.Need-cast-has-value
+cast-has-value c = search needs
+
+add-has-value : tie.Need-add-has-value
+add-has-value c = search needs
 
 has-value-requires : tie.Need-has-value-requires
 has-value-requires c κs = search needs
@@ -23,10 +27,9 @@ is-unset-requires c κs = search needs
 returns : tie.Need-returns
 unfolding base
 returns c =
-    let a = c .before .before .before .before .before .args in
-    let less : ltb (a .k) (a .c) ≡ true = lt-ltb (a .k) (a .c) (c .before .before .if1 .taken) in
-    let mark = c .before .before .before .progress-mark in
-    rw less (c .has-value .ensures ∙ ap₂ hasValue (c .before .mark-value .ensures) (mark .ensures))
+    let a = c .before .before .before .before .args in
+    let less : ltb (a .k) (a .c) ≡ true = lt-ltb (a .k) (a .c) (c .before .if1 .taken) in
+    rw less (c .has-value .ensures ∙ ap (hasValue (1 + a .k % 3)) (c .before .before .progress-mark .ensures))
 
 returns-2 : tie.Need-returns-2
 unfolding base
@@ -40,7 +43,8 @@ mark-fits-spec =
     tie.close
     (tie.spec
     progress-mark-requires
-    mark-value-requires
+    cast-has-value
+    add-has-value
     has-value-requires
     is-unset-requires
     returns

@@ -1,7 +1,8 @@
-use mathlib.Core.Path.{sym, _∙_}
+use mathlib.Core.Path.{sym, ap, _∙_}
 use Prim.Native.Nat.{_*_, _-_, _≤_}
 use native.Mathlib.Omega.{arith}
 use Rattle.flash.specs.Base.{build}
+use Rattle.trailer.specs.Trailer.{isUnset}
 use Rattle.progress.specs.RunLaws.{Counted, counted-start, counted-more, counted-here, counted-end}
 use borrow.Author.Needs.{needs}
 use Rattle.progress.proofs.written_marks.Statement.{statement}
@@ -21,15 +22,19 @@ loop-holds c =
     let a = c .before .before .args in
     (omega arith, counted-start (build (a .g)) (a .t .now) (3 * a .g .sectors))
 
-mark-missing-requires : tie.Need-mark-missing-requires Inv-loop μ-loop
-mark-missing-requires c κs = search needs
+progress-mark-requires : tie.Need-progress-mark-requires Inv-loop μ-loop
+progress-mark-requires c κs = search needs
+
+is-unset-requires : tie.Need-is-unset-requires Inv-loop μ-loop
+is-unset-requires c κs = search needs
 
 returns : tie.Need-returns Inv-loop μ-loop
 returns c =
-    let a = c .before .before .before .before .before .before .args in
-    let loop = c .before .before .before .loop in
+    let a = c .before .before .before .before .before .before .before .args in
+    let loop = c .before .before .before .before .loop in
+    let asked = c .before .is-unset .ensures ∙ ap isUnset (c .before .before .progress-mark .ensures) in
     counted-here (build (a .g)) (a .t .now) (3 * a .g .sectors) (loop .k) (loop .inv .1) (omega arith)
-    (sym (c .before .mark-missing .ensures) ∙ c .if1 .taken)
+    (sym asked ∙ c .if1 .taken)
 
 add-k : tie.Need-add-k Inv-loop μ-loop
 add-k c = search needs
@@ -39,11 +44,12 @@ loop-less c = search needs
 
 loop-again : tie.Need-loop-again Inv-loop μ-loop
 loop-again c =
-    let a = c .before .before .before .before .before .before .args in
-    let loop = c .before .before .before .loop in (
+    let a = c .before .before .before .before .before .before .before .args in
+    let loop = c .before .before .before .before .loop in
+    let asked = c .before .is-unset .ensures ∙ ap isUnset (c .before .before .progress-mark .ensures) in (
       omega arith,
       counted-more (build (a .g)) (a .t .now) (3 * a .g .sectors) (loop .k) (loop .inv .1) (omega arith)
-          (sym (c .before .mark-missing .ensures) ∙ c .if1 .left),
+          (sym asked ∙ c .if1 .left),
     )
 
 returns-2 : tie.Need-returns-2 Inv-loop μ-loop
@@ -59,7 +65,8 @@ written-marks-spec =
     μ-loop
     mul-all
     loop-holds
-    mark-missing-requires
+    progress-mark-requires
+    is-unset-requires
     returns
     add-k
     loop-less
