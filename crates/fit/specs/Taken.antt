@@ -1,8 +1,8 @@
 -- The questions that `fits` asks of the base build, in the three parts in which code asks them, and the bounds that follow.
-use mathlib.Core.Path.{_≡_, refl, sym, _∙_}
+use mathlib.Core.Path.{_≡_, refl, sym, subst, _∙_}
 use mathlib.Core.List.{List, [], _∷_}
 use mathlib.Core.Bool.{Bool, true, false, _&&_, false≢true, _||_}
-use Prim.Native.Nat.{ℕ, _+_, _*_, _%_, _≤_, _<_}
+use Prim.Native.Nat.{ℕ, _+_, _*_, _/_, _%_, _≤_, _<_}
 use native.Mathlib.Omega.{arith}
 use lib.Dec.{eqb, leb}
 use borrow.Author.Tests.{eqb-true, leb-true}
@@ -36,16 +36,24 @@ pub in-parts : (g : Geometry) (l0 l1 l2 : ℕ)
 unfolding fits asked base unitAsked sizesAsked lengthsAsked every
 in-parts g l0 l1 l2 = simp and-assoc
 
-pub unit-bounds : (w : ℕ) → unitAsked w ≡ true → (0 < w) × (w ≤ 8)
+-- what holds of 1, 2, 4 and 8 holds of a unit that is taken
+pub each-unit : (P : ℕ → Type 0) → P 1 → P 2 → P 4 → P 8 → (w : ℕ) → unitAsked w ≡ true → P w
 unfolding unitAsked
-unit-bounds w h = go (eqb w 1) (eqb w 2) (eqb w 4) (eqb w 8) refl refl refl refl h
+each-unit P p1 p2 p4 p8 w h = go (eqb w 1) (eqb w 2) (eqb w 4) (eqb w 8) refl refl refl refl h
   where
-    go : (a b c d : Bool) → eqb w 1 ≡ a → eqb w 2 ≡ b → eqb w 4 ≡ c → eqb w 8 ≡ d → (a || b || c || d) ≡ true → (0 < w) × (w ≤ 8)
-    go true b c d p q r s t = (omega (arith, eqb-true w 1 p), omega (arith, eqb-true w 1 p))
-    go false true c d p q r s t = (omega (arith, eqb-true w 2 q), omega (arith, eqb-true w 2 q))
-    go false false true d p q r s t = (omega (arith, eqb-true w 4 r), omega (arith, eqb-true w 4 r))
-    go false false false true p q r s t = (omega (arith, eqb-true w 8 s), omega (arith, eqb-true w 8 s))
+    go : (a b c d : Bool) → eqb w 1 ≡ a → eqb w 2 ≡ b → eqb w 4 ≡ c → eqb w 8 ≡ d → (a || b || c || d) ≡ true → P w
+    go true b c d p q r s t = subst P (sym (eqb-true w 1 p)) p1
+    go false true c d p q r s t = subst P (sym (eqb-true w 2 q)) p2
+    go false false true d p q r s t = subst P (sym (eqb-true w 4 r)) p4
+    go false false false true p q r s t = subst P (sym (eqb-true w 8 s)) p8
     go false false false false p q r s t = absurd (false≢true t)
+
+pub unit-bounds : (w : ℕ) → unitAsked w ≡ true → (0 < w) × (w ≤ 8)
+unit-bounds =
+    each-unit (λ w. (0 < w) × (w ≤ 8)) (omega arith, omega arith) (omega arith, omega arith) (omega arith, omega arith) (omega arith, omega arith)
+
+unit-whole : (w : ℕ) → unitAsked w ≡ true → 512 / w * w ≡ 512
+unit-whole = each-unit (λ w. 512 / w * w ≡ 512) refl refl refl refl
 
 pub small : (g : Geometry) → unitAsked (g .unit) ≡ true → every (sizesAsked g) ≡ true → Small g
 unfolding sizesAsked every
@@ -58,6 +66,7 @@ small g u h =
     record {
       positive = unit-bounds (g .unit) u .0;
       eight = unit-bounds (g .unit) u .1;
+      whole = unit-whole (g .unit) u;
       room = leb-true (384 * g .unit + 32) (g .sector) (b₂ .0);
       large = leb-true (g .sector) 65536 (b₃ .0);
       two = leb-true 2 (g .sectors) (b₄ .0);

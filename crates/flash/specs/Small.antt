@@ -1,10 +1,12 @@
--- The bounds of document 01's geometries, as code relies on them: every product of them fits.
-use Prim.Native.Nat.{_+_, _*_, _≤_, _<_}
+-- The bounds of document 01's geometries, as code relies on them: every product of them fits, and 512 bytes are whole units.
+use mathlib.Core.Path.{_≡_}
+use Prim.Native.Nat.{_+_, _*_, _/_, _≤_, _<_}
 use Rattle.flash.specs.declared.Geometry.{Geometry}
 
 pub record Small (g : Geometry) : Type 0 where
   pub positive : 0 < g .unit
   pub eight : g .unit ≤ 8
+  pub whole : 512 / g .unit * g .unit ≡ 512
   pub room : 384 * g .unit + 32 ≤ g .sector
   pub large : g .sector ≤ 65536
   pub two : 2 ≤ g .sectors

@@ -1,2 +1,3 @@
 pub mod EraseLaws
 pub mod UnitLaws
+pub mod FrontLaws

@@ -11,7 +11,9 @@ use lib.Dec.{ltb, leb·zero, leb·suc-zero, leb·suc-suc, eqb·suc-zero}
 use borrow.Author.Tests.{ltb-true, ltb-false}
 use Rattle.spans.specs.Bytes.{part, put, blank}
 use Rattle.spans.specs.Choice.{pick}
-use Rattle.spans.specs.Laws.{put-join, put-nil, part-put-after, same-refl, blank-within}
+use Rattle.spans.specs.Laws.{put-nil}
+use Rattle.spans.specs.CutOff.{put-take-join}
+use Rattle.spans.specs.Blanks.{blanks, blanks-yes, blanks-no, blanks-le, blanks-after, blanks-on}
 use Rattle.flash.specs.declared.Geometry.{Geometry}
 use Rattle.flash.specs.declared.Unit.{Unit}
 use Rattle.flash.specs.declared.Run.{Run}
@@ -34,49 +36,32 @@ halted-writes g (suc k) u bs xs b e h = rw (h (local xs (record { left = b; end 
 -- ---- the units that are erased, of n from u on, up to the first that is not
 
 unfoldable pub blankRun : Geometry → Unit → ℕ → List ℕ → ℕ
-blankRun g u zero xs = 0
-blankRun g u (suc n) xs = pick (erased g u xs) (suc (blankRun g (nextUnit u) n xs)) 0
+blankRun g u n xs = blanks (g .unit) (u .0 * g .unit) n xs
+
+run-yes : (g : Geometry) (n : ℕ) (u : Unit) (xs : List ℕ) → erased g u xs ≡ true → blankRun g u (suc n) xs ≡ suc (blankRun g (nextUnit u) n xs)
+unfolding blankRun erased
+run-yes g n u xs e =
+    let at : u .0 * g .unit + g .unit ≡ (u .0 + 1) * g .unit = omega arith in
+    blanks-yes (g .unit) (u .0 * g .unit) n xs e ∙ ap (λ (b : ℕ). suc (blanks (g .unit) b n xs)) at
+
+run-no : (g : Geometry) (n : ℕ) (u : Unit) (xs : List ℕ) → erased g u xs ≡ false → blankRun g u (suc n) xs ≡ 0
+unfolding blankRun erased
+run-no g n u xs e = blanks-no (g .unit) (u .0 * g .unit) n xs e
 
 -- a store before them changes nothing
 blank-run-after : (g : Geometry) (n : ℕ) (u : Unit) (xs : List ℕ) (at : ℕ) (ys : List ℕ) → at + length ys ≤ u .0 * g .unit
     → blankRun g u n (put xs at ys) ≡ blankRun g u n xs
-unfolding blankRun erased
-blank-run-after g zero u xs at ys h = refl
-blank-run-after g (suc n) u xs at ys h =
-    rw (part-put-after xs at ys (u .0 * g .unit) (g .unit) h, blank-run-after g n (nextUnit u) xs at ys (omega arith))
+unfolding blankRun
+blank-run-after g n u xs at ys h = blanks-after (g .unit) (u .0 * g .unit) n xs at ys h
 
 -- all of them
 pub blank-run-all : (g : Geometry) (n : ℕ) (u : Unit) (xs : List ℕ) → part xs (u .0 * g .unit) (n * g .unit) ≡ blank (n * g .unit) → blankRun g u n xs ≡ n
-unfolding blankRun erased
-blank-run-all g zero u xs h = refl
-blank-run-all g (suc n) u xs h =
-    let e : u .0 * g .unit ≡ u .0 * g .unit + 0 = omega arith in
-    let n₁ : (u .0 + 1) * g .unit ≡ u .0 * g .unit + g .unit = omega arith in
-    let here : part xs (u .0 * g .unit) (g .unit) ≡ blank (g .unit) =
-    ap (λ (at : ℕ). part xs at (g .unit)) e ∙ blank-within xs (u .0 * g .unit) (suc n * g .unit) 0 (g .unit) h (omega arith) in
-    let later : part xs ((u .0 + 1) * g .unit) (n * g .unit) ≡ blank (n * g .unit) =
-    ap (λ (at : ℕ). part xs at (n * g .unit)) n₁ ∙ blank-within xs (u .0 * g .unit) (suc n * g .unit) (g .unit) (n * g .unit) h
-    (omega arith) in
-    rw (here, same-refl (blank (g .unit))) (ap suc (blank-run-all g n (nextUnit u) xs later))
+unfolding blankRun blanks
+blank-run-all g n u xs h =
+    let z : n ≡ n + 0 = omega arith in
+    ap (λ (m : ℕ). blanks (g .unit) (u .0 * g .unit) m xs) z ∙ blanks-on (g .unit) (u .0 * g .unit) n 0 xs h ∙ omega arith
 
 -- ---- the closed form
-
-put-take-join : (xs : List ℕ) (at w : ℕ) (bs : List ℕ) (m : ℕ)
-    → put (put xs at (take w bs)) (at + w) (take m (drop w bs)) ≡ put xs at (take (w + m) bs)
-put-take-join xs at w bs m = go (ltb (length bs) w) refl
-  where
-    go : (b : Bool) → ltb (length bs) w ≡ b → put (put xs at (take w bs)) (at + w) (take m (drop w bs)) ≡ put xs at (take (w + m) bs)
-    go true e =
-        let h : length bs < w = ltb-true (length bs) w e in
-        let d : drop w bs ≡ [] = drop-of-length-le bs {i = w} (omega arith) in
-        ap (λ (r : List ℕ). put (put xs at (take w bs)) (at + w) (take m r)) d
-        ∙ ap (put (put xs at (take w bs)) (at + w)) (take-nil m) ∙ put-nil (put xs at (take w bs)) (at + w)
-        ∙ ap (put xs at) (take-all w bs (omega arith) ∙ sym (take-all (w + m) bs (omega arith)))
-    go false e =
-        let h : w ≤ length bs = ltb-false (length bs) w e in
-        let l : w ≡ length (take w bs) = simp length-take (omega arith) in
-        ap (λ (n : ℕ). put (put xs at (take w bs)) (at + n) (take m (drop w bs))) l
-        ∙ put-join xs at (take w bs) (take m (drop w bs)) ∙ ap (put xs at) (sym (take-add w m bs))
 
 -- c units written, of n that the allowance b reaches, of k
 abbrev pub wrote : Geometry → Unit → ℕ → List ℕ → List ℕ → ℕ → ℕ → ℕ → Local
@@ -134,7 +119,7 @@ halted-run g k u bs xs r e h told =
 
 pub writes-at-once : (g : Geometry) (k : ℕ) (u : Unit) (bs xs : List ℕ) (b : ℕ)
     → writeAllIn g u k bs (local xs (going b)) ≡ wrote g u k bs xs b (min b k) (blankRun g u (min b k) xs)
-unfolding writeAllIn blankRun
+unfolding writeAllIn blankRun blanks
 writes-at-once g zero u bs xs b =
     let n : min b 0 ≡ 0 = omega arith in
     sym (ap (λ (n : ℕ). wrote g u 0 bs xs b n (blankRun g u n xs)) n ∙ wrote-none g u 0 bs xs b 0
@@ -162,7 +147,7 @@ writes-at-once g (suc k) u bs xs (suc b) = go (erased g u xs) refl (writes-at-on
         → writeAllIn g (nextUnit u) k (drop w bs) (writeIn g u (take w bs) (local xs (going (suc b))))
         ≡ wrote g u (suc k) bs xs (suc b) (min (suc b) (suc k)) (blankRun g u (min (suc b) (suc k)) xs)
     go false e ih =
-        let r : blankRun g u (suc m) xs ≡ 0 = rw e in
+        let r : blankRun g u (suc m) xs ≡ 0 = run-no g m u xs e in
         ap (writeAllIn g (nextUnit u) k (drop w bs)) (write-refused g u (take w bs) xs b e)
         ∙ halted-writes g k (nextUnit u) (drop w bs) xs (suc b) Unerased unerased-halts
         ∙ sym (ap (λ (n : ℕ). wrote g u (suc k) bs xs (suc b) n (blankRun g u n xs)) (suc-min-suc b k)
@@ -171,7 +156,7 @@ writes-at-once g (suc k) u bs xs (suc b) = go (erased g u xs) refl (writes-at-on
         (ltb-zero-suc m))
     go true e ih =
         let c : ℕ = blankRun g (nextUnit u) m xs in
-        let r : blankRun g u (suc m) xs ≡ suc c = rw e in
+        let r : blankRun g u (suc m) xs ≡ suc c = run-yes g m u xs e in
         let lt : length (take w bs) ≤ w = simp length-take (omega arith) in
         let same-run : blankRun g (nextUnit u) m xs₁ ≡ c = blank-run-after g m (nextUnit u) xs (u .0 * w) (take w bs) (omega arith) in
         let at : (u .0 + 1) * w ≡ u .0 * w + w = omega arith in
@@ -200,29 +185,24 @@ writes-at-once g (suc k) u bs xs (suc b) = go (erased g u xs) refl (writes-at-on
 
 pub blank-run-le : (g : Geometry) (n : ℕ) (u : Unit) (xs : List ℕ) → blankRun g u n xs ≤ n
 unfolding blankRun
-blank-run-le g zero u xs = omega arith
-blank-run-le g (suc n) u xs = go (erased g u xs) (blank-run-le g n (nextUnit u) xs)
-  where
-    go : (t : Bool) → blankRun g (nextUnit u) n xs ≤ n → pick t (suc (blankRun g (nextUnit u) n xs)) 0 ≤ suc n
-    go true h = omega arith
-    go false h = omega arith
+blank-run-le g n u xs = blanks-le (g .unit) (u .0 * g .unit) n xs
 
 -- the k units passed are erased, and so is the next, or not
 pub blank-run-next : (g : Geometry) (u : Unit) (n k : ℕ) (xs : List ℕ) → k < n → erased g (unitNo (u .0 + k)) xs ≡ true
     → k + blankRun g (unitNo (u .0 + k)) (n - k) xs ≡ k + 1 + blankRun g (unitNo (u .0 + (k + 1))) (n - (k + 1)) xs
-unfolding blankRun
 blank-run-next g u n k xs h e =
     let d : n - k ≡ suc (n - (k + 1)) = omega arith in
     let a : u .0 + k + 1 ≡ u .0 + (k + 1) = omega arith in
     ap (λ (m : ℕ). k + blankRun g (unitNo (u .0 + k)) m xs) d
-    ∙ rw (e, a) (omega arith)
+    ∙ ap (λ (m : ℕ). k + m) (run-yes g (n - (k + 1)) (unitNo (u .0 + k)) xs e)
+    ∙ ap (λ (v : ℕ). k + suc (blankRun g (unitNo v) (n - (k + 1)) xs)) a ∙ omega arith
 
 pub blank-run-stop : (g : Geometry) (u : Unit) (n k : ℕ) (xs : List ℕ) → k < n → erased g (unitNo (u .0 + k)) xs ≡ false
     → k + blankRun g (unitNo (u .0 + k)) (n - k) xs ≡ k
-unfolding blankRun
 blank-run-stop g u n k xs h e =
     let d : n - k ≡ suc (n - (k + 1)) = omega arith in
-    ap (λ (m : ℕ). k + blankRun g (unitNo (u .0 + k)) m xs) d ∙ rw e (omega arith)
+    ap (λ (m : ℕ). k + blankRun g (unitNo (u .0 + k)) m xs) d
+    ∙ ap (λ (m : ℕ). k + m) (run-no g (n - (k + 1)) (unitNo (u .0 + k)) xs e) ∙ omega arith
 
 -- what the code has after its one copy is what the units come to
 pub copied : (g : Geometry) (units : ℕ) (to : Unit) (src : List ℕ) (from : ℕ) (xs : List ℕ) (left reached written : ℕ) (ys : List ℕ) (r : Run)

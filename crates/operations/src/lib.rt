@@ -1,8 +1,10 @@
 // The two operations on a lent area, under an allowance: erase a sector, write units.
 ghost use mathlib.Core.Path.{_≡_};
-ghost use Prim.Native.Nat.{_+_, _*_, _-_, _≤_, min};
+ghost use Prim.Native.Nat.{_+_, _*_, _-_, _/_, _≤_, min};
+ghost use lib.ListN.{length};
 ghost use lib.Dec.{ltb};
 ghost use Rattle.spans.specs.Bytes.{part, put};
+ghost use Rattle.spans.specs.Blanks.{blanks};
 ghost use Rattle.spans.specs.Choice.{pick};
 ghost use Rattle.flash.specs.Geometry.{placeOf};
 ghost use Rattle.flash.specs.Small.{Small};
@@ -124,8 +126,28 @@ fn settled(left: u64, units: usize, reached: usize, written: usize) -> Run
     }
 }
 
-// Of the units of dst from to on, as many as are erased up to the first that is not are given the bytes of src from from on: one
-// measure of the erased run and one copy, which comes to the same as unit after unit.
+// Of the bytes that the units reach, blocks are looked at and copied in turn, as long as they are erased; how many that were.
+fn write_blocks(
+    g: Geometry,
+    src: &[u8],
+    from: Offset,
+    dst: &mut [u8],
+    to: Unit,
+    reached: usize,
+) -> usize
+    requires { ⌜ Small g ⌝ }
+    requires { ⌜ to .0 + reached ≤ 8388608 ⌝ }
+    ensures { λ r. ⌜ r ≡ blanks 512 (placeOf g to .0) (min (min (reached * g .unit) (length (now (src .entry)) - from .0)) (length (now (dst .entry)) - placeOf g to .0) / 512) (now (dst .entry)) ⌝ }
+    ensures { λ r. ⌜ (r * 512 ≤ length (now (src .entry)) - from .0) × (r * (512 / g .unit) ≤ reached) × (placeOf g to .0 + r * 512 ≤ 67108864) ⌝ }
+    ensures { λ r. ⌜ now (dst .exit) ≡ put (now (dst .entry)) (placeOf g to .0) (part (now (src .entry)) (from .0) (r * 512)) ⌝ }
+{
+    let at = flash::place_of(g, to);
+    let bytes = flash::place_of(g, Unit(reached));
+    spans::copy_blank(src, from.0, dst, at.0, bytes.0)
+}
+
+// Of the units of dst from to on, as many as are erased up to the first that is not are given the bytes of src from from on. Behind
+// the blocks the erased run is measured, and then copied. It comes to the same as unit after unit.
 fn write_erased(
     g: Geometry,
     src: &[u8],
@@ -139,11 +161,13 @@ fn write_erased(
     ensures { λ r. ⌜ (r ≡ blankRun g to reached (now (dst .entry))) × (r ≤ reached) ⌝ }
     ensures { λ r. ⌜ now (dst .exit) ≡ put (now (dst .entry)) (placeOf g to .0) (part (now (src .entry)) (from .0) (r * g .unit)) ⌝ }
 {
-    let written = blank_units(g, dst, to, reached);
+    let blocks = write_blocks(g, src, from, dst, to, reached);
+    let done = blocks * (512 / g.unit);
+    let more = blank_units(g, dst, Unit(to.0 + done), reached - done);
     let at = flash::place_of(g, to);
-    let bytes = flash::place_of(g, Unit(written));
-    spans::copy(src, from.0, dst, at.0, bytes.0);
-    written
+    let rest = flash::place_of(g, Unit(more));
+    spans::copy(src, from.0 + blocks * 512, dst, at.0 + blocks * 512, rest.0);
+    done + more
 }
 
 // The units of src from from on go to the units of dst from to on, in rising order, as far as the allowance reaches and the units are

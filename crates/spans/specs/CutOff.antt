@@ -2,14 +2,14 @@
 use mathlib.Core.Path.{_≡_, refl, sym, ap, _∙_}
 use mathlib.Core.List.{List, [], _∷_}
 use mathlib.Core.Bool.{Bool, true, false}
-use Prim.Native.Nat.{ℕ, zero, suc, _+_, _-_, _≤_, min}
+use Prim.Native.Nat.{ℕ, zero, suc, _+_, _-_, _≤_, _<_, min}
 use native.Mathlib.Omega.{arith}
-use lib.ListN.{length, getD, take, drop, length-take, length-drop}
-use lib.Seq.{take-all, take-nil, take-take}
+use lib.ListN.{length, getD, take, drop, length-take, length-drop, drop-of-length-le}
+use lib.Seq.{take-add, take-all, take-nil, take-take, drop-drop}
 use lib.Dec.{ltb}
 use borrow.Author.Tests.{ltb-true, ltb-false}
 use Rattle.spans.specs.Bytes.{part, put, blank}
-use Rattle.spans.specs.Laws.{part-blank}
+use Rattle.spans.specs.Laws.{part-blank, put-nil, put-join}
 
 pub put-cut : (xs : List ℕ) (at : ℕ) (ys : List ℕ) (n : ℕ) → length xs ≤ at + n → put xs at ys ≡ put xs at (take n ys)
 unfolding put
@@ -67,3 +67,28 @@ pub getD-past : (xs : List ℕ) (i : ℕ) → length xs ≤ i → getD xs i 0 �
 getD-past [] i h = refl
 getD-past (x ∷ xs) zero h = absurd (omega arith)
 getD-past (x ∷ xs) (suc i) h = getD-past xs i (omega arith)
+
+-- two stores, of what follows in the same list
+pub put-take-join : (xs : List ℕ) (at w : ℕ) (bs : List ℕ) (m : ℕ)
+    → put (put xs at (take w bs)) (at + w) (take m (drop w bs)) ≡ put xs at (take (w + m) bs)
+put-take-join xs at w bs m = go (ltb (length bs) w) refl
+  where
+    go : (b : Bool) → ltb (length bs) w ≡ b → put (put xs at (take w bs)) (at + w) (take m (drop w bs)) ≡ put xs at (take (w + m) bs)
+    go true e =
+        let h : length bs < w = ltb-true (length bs) w e in
+        let d : drop w bs ≡ [] = drop-of-length-le bs {i = w} (omega arith) in
+        ap (λ (r : List ℕ). put (put xs at (take w bs)) (at + w) (take m r)) d
+        ∙ ap (put (put xs at (take w bs)) (at + w)) (take-nil m) ∙ put-nil (put xs at (take w bs)) (at + w)
+        ∙ ap (put xs at) (take-all w bs (omega arith) ∙ sym (take-all (w + m) bs (omega arith)))
+    go false e =
+        let h : w ≤ length bs = ltb-false (length bs) w e in
+        let l : w ≡ length (take w bs) = simp length-take (omega arith) in
+        ap (λ (n : ℕ). put (put xs at (take w bs)) (at + n) (take m (drop w bs))) l
+        ∙ put-join xs at (take w bs) (take m (drop w bs)) ∙ ap (put xs at) (sym (take-add w m bs))
+
+pub copy-more : (xs : List ℕ) (at : ℕ) (src : List ℕ) (from a b : ℕ)
+    → put (put xs at (part src from a)) (at + a) (part src (from + a) b) ≡ put xs at (part src from (a + b))
+unfolding part
+copy-more xs at src from a b =
+    let e : drop (from + a) src ≡ drop a (drop from src) = sym (drop-drop a from src) in
+    ap (λ (ys : List ℕ). put (put xs at (take a (drop from src))) (at + a) (take b ys)) e ∙ put-take-join xs at a (drop from src) b

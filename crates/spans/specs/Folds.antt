@@ -2,15 +2,15 @@
 use mathlib.Core.Path.{_≡_, refl, sym, ap, ap₂, _∙_}
 use mathlib.Core.List.{List, [], _∷_, _++_}
 use mathlib.Core.Bool.{Bool, true, false, _&&_}
-use Prim.Native.Nat.{ℕ, _+_, _-_, _≤_, _<_}
+use Prim.Native.Nat.{ℕ, _+_, _-_, _<_}
 use native.Mathlib.Numerals.{add-one}
 use native.Mathlib.Omega.{arith}
-use lib.ListN.{length, getD, length-take, length-drop, replicate-append-replicate}
+use lib.ListN.{length, getD, length-take, length-drop}
 use lib.Bits.{bitAnd, bitOr, bitXor, and-self, and-le-l, and-le-r, or-add-and, xor-add-and, xor-self, or-zero-r}
 use lib.Dec.{eqb}
 use borrow.Author.Tests.{eqb-true, eqb-false, eq-eqb, ne-eqb}
 use Rattle.spans.specs.Bytes.{part, blank, same}
-use Rattle.spans.specs.Laws.{length-part, length-blank, part-next, blank-next, part-add, blank-within, same-refl, same-eq}
+use Rattle.spans.specs.Laws.{length-part, length-blank, part-next, blank-next}
 
 and-full : (x v : ℕ) → x < 256 → v < 256 → eqb (bitAnd x v) 255 ≡ (eqb x 255 && eqb v 255)
 and-full x v hx hv = go (eqb x 255) (eqb v 255) refl refl
@@ -68,33 +68,6 @@ same-append (a ∷ xs) (b ∷ ys) us vs h = go (eqb a b) (same-append xs ys us v
 same-snoc : (xs ys : List ℕ) (x y : ℕ) → length xs ≡ length ys → same (xs ++ (x ∷ [])) (ys ++ (y ∷ [])) ≡ (same xs ys && eqb x y)
 unfolding same
 same-snoc xs ys x y h = same-append xs ys (x ∷ []) (y ∷ []) h ∙ ap (λ (b : Bool). same xs ys && b) (and-all (eqb x y))
-
-blank-add : (a b : ℕ) → blank a ++ blank b ≡ blank (a + b)
-unfolding blank
-blank-add a b = replicate-append-replicate a b 255
-
--- behind a stretch that is blank, the rest decides
-pub blank-on : (xs : List ℕ) (at a b c : ℕ) → c ≡ a + b → a ≤ length xs - at → same (part xs at a) (blank a) ≡ true
-    → same (part xs at c) (blank c) ≡ same (part xs (at + a) b) (blank b)
-unfolding part
-blank-on xs at a b c s h e =
-    let l : length (part xs at a) ≡ length (blank a) = simp (length-take, length-drop) (omega (arith, length-blank a)) in
-    ap (λ (n : ℕ). same (part xs at n) (blank n)) s ∙ ap₂ same (sym (part-add xs at a b)) (sym (blank-add a b))
-    ∙ same-append (part xs at a) (blank a) (part xs (at + a) b) (blank b) l
-    ∙ ap (λ (p : Bool). p && same (part xs (at + a) b) (blank b)) e
-
--- where a part of a stretch is not blank, the stretch is not
-pub blank-fails : (xs : List ℕ) (at c i b : ℕ) → at ≤ i → i + b ≤ at + c → same (part xs i b) (blank b) ≡ false
-    → same (part xs at c) (blank c) ≡ false
-blank-fails xs at c i b h k e = go (same (part xs at c) (blank c)) refl
-  where
-    go : (p : Bool) → same (part xs at c) (blank c) ≡ p → p ≡ false
-    go false q = refl
-    go true q =
-        let o : at + (i - at) ≡ i = omega arith in
-        let whole : part xs at c ≡ blank c = same-eq (part xs at c) (blank c) q in
-        let here : part xs i b ≡ blank b = ap (λ (n : ℕ). part xs n b) (sym o) ∙ blank-within xs at c (i - at) b whole (omega arith) in
-        sym (same-refl (blank b)) ∙ ap (λ (ys : List ℕ). same ys (blank b)) (sym here) ∙ e
 
 -- lists of different lengths are not the same
 pub same-lengths : (xs ys : List ℕ) → (length xs ≡ length ys → ⊥) → same xs ys ≡ false

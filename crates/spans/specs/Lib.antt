@@ -3,6 +3,7 @@ pub mod Choice
 pub mod Laws
 pub mod CutOff
 pub mod Folds
+pub mod Blanks
 pub mod Runs
 pub mod Words
 pub mod WordLaws

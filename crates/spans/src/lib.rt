@@ -1,7 +1,8 @@
 ghost use mathlib.Core.Path.{_≡_};
-ghost use Prim.Native.Nat.{ℕ, _+_, _*_, _-_, _≤_, min};
+ghost use Prim.Native.Nat.{ℕ, _+_, _*_, _-_, _/_, _≤_, min};
 ghost use lib.ListN.{length, getD};
 ghost use Rattle.spans.specs.Bytes.{put, blank, part, same};
+ghost use Rattle.spans.specs.Blanks.{blanks};
 
 // Everything here is total: what lies beyond the end of a slice is not read and not written, as in the definitions of part and put. So
 // no caller has to show a length.
@@ -78,35 +79,44 @@ fn blank_within(area: &[u8], at: usize, size: usize) -> bool
     all == 255
 }
 
-// Folds of one fixed length: the compiler unrolls them, and the first block that is not blank ends the search.
-fn blank_blocks(area: &[u8], at: usize, blocks: usize) -> bool
-    requires { ⌜ blocks * 512 ≤ length (now area) - at ⌝ }
-    ensures { λ r. ⌜ r ≡ same (part (now (area .entry)) at (blocks * 512)) (blank (blocks * 512)) ⌝ }
-{
-    let mut k = 0;
-    while k < blocks {
-        if blank_within(area, at + k * 512, 512) {
-            k += 1;
-        } else {
-            return false;
-        }
-    }
-    true
-}
-
 // Whether the size bytes from at on are all there and all 0xff.
 pub fn all_blank(area: &[u8], at: usize, size: usize) -> bool
     ensures { λ r. ⌜ r ≡ same (part (now (area .entry)) at size) (blank size) ⌝ }
 {
     if room(area.len(), at) < size {
-        return false;
-    }
-    let blocks = size / 512;
-    if blank_blocks(area, at, blocks) {
-        blank_within(area, at + blocks * 512, size - blocks * 512)
-    } else {
         false
+    } else {
+        blank_within(area, at, size)
     }
+}
+
+// Block after block is looked at and then copied: one fixed length, which the compiler unrolls, and what was looked at is still near.
+fn copy_blank_blocks(src: &[u8], from: usize, dst: &mut [u8], at: usize, blocks: usize) -> usize
+    requires { ⌜ blocks * 512 ≤ length (now src) - from ⌝ }
+    requires { ⌜ blocks * 512 ≤ length (now dst) - at ⌝ }
+    ensures { λ r. ⌜ r ≡ blanks 512 at blocks (now (dst .entry)) ⌝ }
+    ensures { λ r. ⌜ now (dst .exit) ≡ put (now (dst .entry)) at (part (now (src .entry)) from (r * 512)) ⌝ }
+{
+    let mut k = 0;
+    while k < blocks {
+        if blank_within(dst, at + k * 512, 512) {
+            copy_within(src, from + k * 512, dst, at + k * 512, 512);
+            k += 1;
+        } else {
+            return k;
+        }
+    }
+    k
+}
+
+// The size bytes of src from from on go to dst from at on, in blocks of 512 bytes as long as those of dst are blank. Answers how many
+// blocks that were; the bytes behind them are left for another.
+pub fn copy_blank(src: &[u8], from: usize, dst: &mut [u8], at: usize, size: usize) -> usize
+    ensures { λ r. ⌜ r ≡ blanks 512 at (min (min size (length (now (src .entry)) - from)) (length (now (dst .entry)) - at) / 512) (now (dst .entry)) ⌝ }
+    ensures { λ r. ⌜ now (dst .exit) ≡ put (now (dst .entry)) at (part (now (src .entry)) from (r * 512)) ⌝ }
+{
+    let n = least(least(size, room(src.len(), from)), room(dst.len(), at));
+    copy_blank_blocks(src, from, dst, at, n / 512)
 }
 
 fn same_within(area: &[u8], at: usize, want: &[u8]) -> bool

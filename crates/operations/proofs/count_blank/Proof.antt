@@ -1,3 +1,4 @@
+use Rattle.spans.specs.Blanks.{blanks}
 use mathlib.Core.Path.{sym, ap, _∙_}
 use mathlib.Core.Bool.{true, false}
 use Prim.Native.Nat.{ℕ}
@@ -59,7 +60,7 @@ returns c =
     (c .before .before .before .before .loop .k) (given .area .now) (omega arith) e)
 
 returns-2 : tie.Need-returns-2 Inv-loop μ-loop
-unfolding blankRun
+unfolding blankRun blanks
 returns-2 c =
     let given = c .before .before .before .args in
     let e : c .before .loop .k ≡ given .n = omega arith in
