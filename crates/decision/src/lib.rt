@@ -5,7 +5,7 @@ ghost use Rattle.flash.specs.Small.{Small};
 ghost use Rattle.plan.specs.Decision.{stepA, continue, stepB, asks};
 ghost use Rattle.plan.specs.Asked.{flashOf, askedBy};
 ghost use Rattle.plan.specs.DecisionLaws.{marksRead};
-ghost use Rattle.decision.specs.RunLaws.{followed};
+ghost use Rattle.decision.specs.FollowLaws.{followed};
 use copy_done::done_unset;
 use flash::Geometry;
 use image_ok::ok_set;

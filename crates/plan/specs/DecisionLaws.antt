@@ -1,23 +1,19 @@
--- Laws for the code of B and C: the tests by name, the number of moves of the base, B by the number of marks, and what the check
--- of the image changes.
+-- Laws for the code of B and C: the tests by name, the number of moves of the base, and what the check of the image changes.
 use mathlib.Core.Path.{_≡_, refl}
 use mathlib.Core.List.{List}
 use mathlib.Core.Bool.{Bool, true, false, _&&_}
-use Prim.Native.Nat.{ℕ, _+_, _*_, _-_, _≤_, _<_}
+use Prim.Native.Nat.{ℕ, _+_, _*_, _-_}
 use native.Mathlib.Omega.{arith}
 use lib.ListN.{length, take}
-use lib.Dec.{eqb, leb}
-use borrow.Author.Tests.{eq-eqb, ne-eqb, le-leb, lt-leb}
-use Rattle.spans.specs.Choice.{pick}
 use Rattle.flash.specs.declared.Geometry.{Geometry}
-use Rattle.flash.specs.Build.{slot0, slot1, scratch, Build, Flash}
+use Rattle.flash.specs.Build.{Build, Flash}
 use Rattle.flash.specs.Base.{base, build}
 use Rattle.flash.specs.BaseLaws.{length-moves}
 use Rattle.flash.specs.Small.{Small}
-use Rattle.trailer.specs.Trailer.{trailer, okAt, copyDoneAt, magicOf, isGood, noMagic, markOf, isUnset, hasValue, legal}
+use Rattle.trailer.specs.Trailer.{okAt, copyDoneAt, magicOf, isGood, noMagic, markOf, isUnset, hasValue}
 use Rattle.plan.specs.declared.Course.{Course}
 use Rattle.plan.specs.declared.Course.the-variants.{Damage, FromLineThree, Resume, Test, Permanent, Revert, Clear, Nothing}
-use Rattle.plan.specs.Decision.{continue, asks, judged, decide}
+use Rattle.plan.specs.Decision.{judged, decide}
 use Rattle.plan.specs.Asked.{askedBy, asksCheck}
 
 -- ---- the tests of B and C by name

@@ -10,7 +10,8 @@ use Rattle.flash.specs.Build.{Build, Flash}
 use Rattle.flash.specs.Base.{threeMoves, allMoves, base}
 use Rattle.flash.specs.Operations.{attempt, eraseIn, erased, writeIn, step, steps, start}
 use Rattle.trailer.specs.Trailer.{magicBytes, trailer, magicOf, markOf, markBytes, isGood, noMagic, isUnset, hasValue, written, legal}
-use Rattle.plan.specs.Lists.{writes, magicOps, okOps, linesOneTwo, linesThreeToSix, copies, moveOps, dataOps, exchange, erases, clearOut}
+use Rattle.plan.specs.Lists.{writes, magicOps, okOps, linesOneTwo, linesThreeToSix, copies, moveOps}
+use Rattle.plan.specs.Lists.{dataOps, exchange, erases, clearOut}
 use Rattle.plan.specs.Decision.{stepA, continue, stepB, stateC, asks, judged, decide, listOf, okUnset}
 
 -- Units of one byte and two sectors to a slot, as small as the trailer lets them be: fewer bytes than document 01 allows, for quick
@@ -67,5 +68,8 @@ examples =
     ∷ row (stopped 159 (marked false)) (exchanged false) ∷ []
 
 pub examples-hold : Holds examples
-unfolding examples g old new ok holding marked exchanged accepts after stopped base decide judged asks stepA stepB continue stateC listOf okUnset written legal hasValue isUnset noMagic isGood markOf markBytes magicOf trailer magicBytes writes magicOps okOps linesOneTwo linesThreeToSix copies moveOps dataOps exchange erases clearOut threeMoves allMoves put part blank same attempt eraseIn erased writeIn step steps
+unfolding examples g old new ok holding marked exchanged accepts after stopped base decide judged asks stepA stepB
+    continue stateC listOf okUnset written legal hasValue isUnset noMagic isGood markOf markBytes magicOf trailer
+    magicBytes writes magicOps okOps linesOneTwo linesThreeToSix copies moveOps dataOps exchange erases clearOut
+    threeMoves allMoves put part blank same attempt eraseIn erased writeIn step steps
 examples-hold = and refl (and refl (and refl (and refl (and refl (and refl (and refl (and refl no-more)))))))

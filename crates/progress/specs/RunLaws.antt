@@ -9,6 +9,7 @@ use lib.Dec.{ltb}
 use Rattle.spans.specs.Choice.{pick}
 use Rattle.flash.specs.Build.{Build}
 use Rattle.trailer.specs.Trailer.{markAt, markOf, isUnset, hasValue, written, legal}
+use Rattle.trailer.specs.MarkRun.{written-none, written-more}
 
 -- mark number k is as a run of c marks has it
 abbrev pub fitsRun : Build → List ℕ → ℕ → ℕ → Bool
@@ -19,19 +20,16 @@ module _ (g : Build) (t : List ℕ) (n k : ℕ) where
   unfolding written
   written-end h = let e : n - k ≡ 0 = omega arith in ap (written g t k) e
 
-  written-here : k < n → isUnset (markOf g t (markAt g k)) ≡ true → written g t k (n - k) ≡ 0
-  unfolding written
-  written-here h u =
+  count-ends : k < n → isUnset (markOf g t (markAt g k)) ≡ true → written g t k (n - k) ≡ 0
+  count-ends h u =
       let e : n - k ≡ suc (n - (k + 1)) = omega arith in
-      ap (written g t k) e ∙ ap (λ (b : Bool). pick b 0 (suc (written g t (suc k) (n - (k + 1))))) u
+      ap (written g t k) e ∙ written-none g t k (n - (k + 1)) u
 
-  written-more : k < n → isUnset (markOf g t (markAt g k)) ≡ false
+  count-goes-on : k < n → isUnset (markOf g t (markAt g k)) ≡ false
       → written g t k (n - k) ≡ suc (written g t (k + 1) (n - (k + 1)))
-  unfolding written
-  written-more h u =
+  count-goes-on h u =
       let e : n - k ≡ suc (n - (k + 1)) = omega arith in
-      ap (written g t k) e ∙ ap (λ (b : Bool). pick b 0 (suc (written g t (suc k) (n - (k + 1))))) u
-      ∙ ap (λ (i : ℕ). suc (written g t i (n - (k + 1)))) (sym (add-one k))
+      ap (written g t k) e ∙ written-more g t k (n - (k + 1)) u ∙ ap (λ (i : ℕ). suc (written g t i (n - (k + 1)))) (sym (add-one k))
 
   -- the loop's invariant, and how it ends
   abbrev pub Counted : Type 0
@@ -41,7 +39,7 @@ module _ (g : Build) (t : List ℕ) (n k : ℕ) where
   counted-end i h = omega (arith, i, written-end h)
 
   pub counted-here : Counted → k < n → isUnset (markOf g t (markAt g k)) ≡ true → k ≡ written g t 0 n
-  counted-here i h u = omega (arith, i, written-here h u)
+  counted-here i h u = omega (arith, i, count-ends h u)
 
   pub legal-end : (c : ℕ) → n ≤ k → legal g t c k (n - k) ≡ true
   unfolding legal
@@ -64,4 +62,4 @@ counted-start g t n = let e : n - 0 ≡ n = omega arith in omega (arith, ap (wri
 
 pub counted-more : (g : Build) (t : List ℕ) (n k : ℕ) → Counted g t n k → k < n
     → isUnset (markOf g t (markAt g k)) ≡ false → Counted g t n (k + 1)
-counted-more g t n k i h u = omega (arith, i, written-more g t n k h u)
+counted-more g t n k i h u = omega (arith, i, count-goes-on g t n k h u)

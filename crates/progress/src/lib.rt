@@ -3,7 +3,7 @@ ghost use mathlib.Core.Path.{_≡_};
 ghost use Prim.Native.Nat.{_*_, _<_};
 ghost use Rattle.flash.specs.Base.{build};
 ghost use Rattle.flash.specs.Small.{Small};
-ghost use Rattle.trailer.specs.Trailer.{markAt, markOf, isUnset, written, legal};
+ghost use Rattle.trailer.specs.Trailer.{markAt, markOf, written, legal};
 ghost use Rattle.progress.specs.RunLaws.{fitsRun};
 use flash::Geometry;
 use flash::Offset;

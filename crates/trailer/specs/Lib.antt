@@ -1,4 +1,4 @@
 pub mod Trailer
 pub mod MarkOrder
 pub mod MarkRun
-pub mod CutLaws
+pub mod BytesFrom

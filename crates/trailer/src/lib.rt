@@ -1,3 +1,4 @@
+// The trailer: what its places hold is defined in specs/, Trailer first; here its bytes are found.
 ghost use mathlib.Core.Path.{_≡_};
 ghost use Prim.Native.Nat.{_≤_};
 ghost use lib.ListN.{drop};

@@ -1,4 +1,4 @@
-use mathlib.Core.Path.{ap, _∙_}
+use mathlib.Core.Path.{_≡_, ap, _∙_}
 use native.Mathlib.Omega.{arith}
 use Rattle.flash.specs.declared.Offset.{Offset}
 use Rattle.flash.specs.Base.{base, build}
@@ -21,7 +21,8 @@ returns : tie.Need-returns
 returns c =
     let a = c .before .before .before .before .args in
     let mark = c .before .mark-in .ensures ∙ ap (markOf (build (a .g)) (a .t .now)) (c .before .before .done-place .ensures) in
-    c .has-value .ensures ∙ ap (hasValue 1) mark
+    let asked : c .has-value .result ≡ hasValue 1 (c .before .mark-in .result) = c .has-value .ensures in
+    asked ∙ ap (hasValue 1) mark
 
 pub done-set-spec : {M : Type 1} → statement M
 done-set-spec = tie.close (tie.spec done-place-requires mark-in-requires has-value-requires returns)

@@ -1,6 +1,6 @@
 use mathlib.Core.Path.{sym, _∙_}
 use Rattle.flash.specs.Base.{base, build}
-use Rattle.decision.specs.RunLaws.{continue-legal, continue-damage}
+use Rattle.decision.specs.FollowLaws.{continue-legal, continue-damage}
 use borrow.Author.Needs.{needs}
 use Rattle.decision.proofs.continue_run.Statement.{statement}
 use Rattle.decision.proofs.continue_run.Tie as tie

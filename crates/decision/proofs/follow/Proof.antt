@@ -2,7 +2,7 @@ use mathlib.Core.Path.{sym}
 use native.Mathlib.Omega.{arith}
 use Rattle.flash.specs.Base.{build}
 use Rattle.plan.specs.DecisionLaws.{most-marks}
-use Rattle.decision.specs.RunLaws.{none-marked, too-few, marks-enough, too-many}
+use Rattle.decision.specs.FollowLaws.{none-marked, too-few, marks-enough, too-many}
 use borrow.Author.Needs.{needs}
 use Rattle.decision.proofs.follow.Statement.{statement}
 use Rattle.decision.proofs.follow.Tie as tie

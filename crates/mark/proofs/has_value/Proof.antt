@@ -1,3 +1,4 @@
+use mathlib.Core.Path.{sym, ap}
 use Rattle.trailer.specs.Trailer.{hasValue}
 use borrow.Author.Needs.{needs}
 use Rattle.mark.proofs.has_value.Statement.{statement}
@@ -18,7 +19,7 @@ returns c = search needs
 
 returns-2 : tie.Need-returns-2
 unfolding hasValue
-returns-2 c = cc
+returns-2 c = ap (hasValue (c .before .before .before .args .want)) (sym (c .before .m .given .1))
 
 returns-3 : tie.Need-returns-3
 unfolding hasValue

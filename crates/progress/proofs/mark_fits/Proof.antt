@@ -29,7 +29,9 @@ unfolding base
 returns c =
     let a = c .before .before .before .before .args in
     let less : ltb (a .k) (a .c) ≡ true = lt-ltb (a .k) (a .c) (c .before .if1 .taken) in
-    rw less (c .has-value .ensures ∙ ap (hasValue (1 + a .k % 3)) (c .before .before .progress-mark .ensures))
+    let mark = c .before .before .progress-mark in
+    let asked : c .has-value .result ≡ hasValue (1 + a .k % 3) (mark .result) = c .has-value .ensures in
+    rw less (asked ∙ ap (hasValue (1 + a .k % 3)) (mark .ensures))
 
 returns-2 : tie.Need-returns-2
 unfolding base

@@ -3,7 +3,7 @@ use Prim.Native.Nat.{min}
 use lib.ListN.{length}
 use Rattle.flash.specs.declared.Offset.{Offset}
 use Rattle.flash.specs.Geometry.{startOf}
-use Rattle.trailer.specs.CutLaws.{drop-cut}
+use Rattle.trailer.specs.BytesFrom.{drop-least}
 use borrow.Author.Needs.{needs}
 use Rattle.trailer.proofs.from_sector.Statement.{statement}
 use Rattle.trailer.proofs.from_sector.Tie as tie
@@ -28,7 +28,7 @@ returns c =
     let a = c .before .before .before .before .args in
     let cut : c .before .least .result ≡ min (startOf (a .g) (a .i) .0) (length (a .area .now)) =
     c .before .least .ensures ∙ ap (λ (o : Offset). min (o .0) (length (a .area .now))) (c .before .before .start-of .ensures) in
-    drop-cut (a .area .now) (startOf (a .g) (a .i) .0) (c .before .least .result) cut
+    drop-least (a .area .now) (startOf (a .g) (a .i) .0) (c .before .least .result) cut
 
 pub from-sector-spec : {M : Type 1} → statement M
 from-sector-spec =

@@ -14,8 +14,8 @@ past [] i h = drop-nil i
 past (x ∷ xs) zero h = absurd (omega arith)
 past (x ∷ xs) (suc i) h = past xs i (omega arith)
 
-pub drop-cut : (xs : List ℕ) (at i : ℕ) → i ≡ min at (length xs) → take (length xs - i) (drop i xs) ≡ drop at xs
-drop-cut xs at i e = take-all (length xs - i) (drop i xs) (simp length-drop (omega arith)) ∙ go (ltb at (length xs)) refl
+pub drop-least : (xs : List ℕ) (at i : ℕ) → i ≡ min at (length xs) → take (length xs - i) (drop i xs) ≡ drop at xs
+drop-least xs at i e = take-all (length xs - i) (drop i xs) (simp length-drop (omega arith)) ∙ go (ltb at (length xs)) refl
   where
     go : (b : Bool) → ltb at (length xs) ≡ b → drop i xs ≡ drop at xs
     go true l =
