@@ -1,1 +1,1 @@
-pub mod FollowLaws
+pub mod AreaLaws

@@ -2,18 +2,14 @@
 ghost use mathlib.Core.Path.{_≡_};
 ghost use Rattle.flash.specs.Base.{build};
 ghost use Rattle.flash.specs.Small.{Small};
-ghost use Rattle.plan.specs.Decision.{stepA, continue, stepB, asks};
+ghost use Rattle.plan.specs.Decision.{stepA, asks};
 ghost use Rattle.plan.specs.Asked.{flashOf, askedBy};
-ghost use Rattle.plan.specs.DecisionLaws.{marksRead};
-ghost use Rattle.decision.specs.FollowLaws.{followed};
-use copy_done::done_unset;
 use flash::Geometry;
 use image_ok::ok_set;
 use image_ok::ok_unset;
 use magic::magic_good;
 use plan::Course;
-use progress::legal_run;
-use progress::written_marks;
+use resumption::step_b;
 use states::state_c;
 use trailer::scratch_trailer;
 use trailer::slot_trailer;
@@ -29,58 +25,6 @@ fn step_a(g: Geometry, t2: &[u8]) -> Course
         Course::FromLineThree(true)
     } else {
         Course::Damage
-    }
-}
-
-// B's answer for a run of c marks.
-fn follow(g: Geometry, c: usize, otherwise: Course) -> Course
-    requires { ⌜ Small g ⌝ }
-    ensures { λ r. ⌜ r ≡ followed (build g) c otherwise ⌝ }
-{
-    if c == 0 {
-        return otherwise;
-    }
-    if c < 3 {
-        return Course::Damage;
-    }
-    if c <= 3 * g.sectors {
-        Course::Resume(c)
-    } else {
-        Course::Damage
-    }
-}
-
-fn continue_run(g: Geometry, t0: &[u8], c: usize, otherwise: Course) -> Course
-    requires { ⌜ Small g ⌝ }
-    ensures { λ r. ⌜ r ≡ continue (build g) (now (t0 .entry)) c otherwise ⌝ }
-{
-    if legal_run(g, t0, c) {
-        follow(g, c, otherwise)
-    } else {
-        Course::Damage
-    }
-}
-
-// Whether B reads the marks.
-fn unfinished(g: Geometry, t0: &[u8]) -> bool
-    requires { ⌜ Small g ⌝ }
-    ensures { λ r. ⌜ r ≡ marksRead (build g) (now (t0 .entry)) ⌝ }
-{
-    if magic_good(g, t0) {
-        done_unset(g, t0)
-    } else {
-        false
-    }
-}
-
-fn step_b(g: Geometry, t0: &[u8], otherwise: Course) -> Course
-    requires { ⌜ Small g ⌝ }
-    ensures { λ r. ⌜ r ≡ stepB (build g) (now (t0 .entry)) otherwise ⌝ }
-{
-    if unfinished(g, t0) {
-        continue_run(g, t0, written_marks(g, t0), otherwise)
-    } else {
-        otherwise
     }
 }
 

@@ -27,8 +27,7 @@ pub enum End {
     Unerased,
 }
 
-// What is left of the allowance, and how it stands. On the way of an exchange a Run is made of its two fields anew and not handed on
-// whole: the padding between would be stored and read back, and the reading waits for all the bytes that the copy stored before.
+// What is left of the allowance, and how it stands.
 pub struct Run {
     pub left: u64,
     pub end: End,

@@ -1,7 +1,7 @@
 pub mod Lists
 pub mod Decision
 pub mod Examples
-pub mod Order
+pub mod AskedBefore
 pub mod Asked
 pub mod DecisionLaws
 pub mod Bounds

@@ -2,7 +2,7 @@ use mathlib.Core.Path.{_∙_}
 use Rattle.flash.specs.Base.{base}
 use Rattle.trailer.specs.Trailer.{trailer}
 use Rattle.plan.specs.Asked.{flashOf}
-use Rattle.decision.specs.FollowLaws.{asked-by}
+use Rattle.decision.specs.AreaLaws.{asked-by}
 use borrow.Author.Needs.{needs}
 use Rattle.decision.proofs.asks.Statement.{statement}
 use Rattle.decision.proofs.asks.Tie as tie

@@ -3,8 +3,8 @@ use Rattle.flash.specs.Base.{base, build}
 use mathlib.Core.Path.{sym, ap, _∙_}
 use Rattle.plan.specs.Decision.{continue, stepB}
 use borrow.Author.Needs.{needs}
-use Rattle.decision.proofs.step_b.Statement.{statement}
-use Rattle.decision.proofs.step_b.Tie as tie
+use Rattle.resumption.proofs.step_b.Statement.{statement}
+use Rattle.resumption.proofs.step_b.Tie as tie
 
 unfinished-requires : tie.Need-unfinished-requires
 unfinished-requires c κs = search needs

@@ -1,4 +1,4 @@
--- B by the number of marks, and the decision by the three trailer sectors.
+-- B by the number of marks.
 use mathlib.Core.Path.{_≡_}
 use mathlib.Core.List.{List}
 use mathlib.Core.Bool.{true, false, _&&_}
@@ -7,14 +7,11 @@ use lib.ListN.{length}
 use lib.Dec.{eqb, leb}
 use borrow.Author.Tests.{eq-eqb, ne-eqb, le-leb, lt-leb}
 use Rattle.spans.specs.Choice.{pick}
-use Rattle.flash.specs.declared.Geometry.{Geometry}
-use Rattle.flash.specs.Build.{slot0, slot1, scratch, Build, Flash}
-use Rattle.flash.specs.Base.{build}
-use Rattle.trailer.specs.Trailer.{trailer, legal}
+use Rattle.flash.specs.Build.{Build}
+use Rattle.trailer.specs.Trailer.{legal}
 use Rattle.plan.specs.declared.Course.{Course}
 use Rattle.plan.specs.declared.Course.the-variants.{Damage, Resume}
-use Rattle.plan.specs.Decision.{continue, asks}
-use Rattle.plan.specs.Asked.{askedBy}
+use Rattle.plan.specs.Decision.{continue}
 
 -- B's answer where the run is legal
 unfoldable pub followed : Build → ℕ → Course → Course
@@ -47,7 +44,3 @@ module _ (g : Build) (c : ℕ) (otherwise : Course) where
   pub too-many : (c ≡ 0 → ⊥) → 3 ≤ c → 3 + length (g .moves) < c → followed g c otherwise ≡ Damage
   unfolding followed
   too-many h l m = rw (ne-eqb c 0 h, le-leb 3 c l, lt-leb c (3 + length (g .moves)) m)
-
-pub asked-by : (g : Geometry) (f : Flash) (t0 t1 t2 : List ℕ) → t0 ≡ trailer (build g) slot0 f → t1 ≡ trailer (build g) slot1 f
-    → t2 ≡ trailer (build g) scratch f → asks (build g) t0 t1 t2 ≡ askedBy g f
-asked-by g f t0 t1 t2 p q r = rw (p, q, r)

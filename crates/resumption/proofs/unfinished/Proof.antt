@@ -1,7 +1,7 @@
 use mathlib.Core.Path.{sym, _∙_}
 use borrow.Author.Needs.{needs}
-use Rattle.decision.proofs.unfinished.Statement.{statement}
-use Rattle.decision.proofs.unfinished.Tie as tie
+use Rattle.resumption.proofs.unfinished.Statement.{statement}
+use Rattle.resumption.proofs.unfinished.Tie as tie
 
 magic-good-requires : tie.Need-magic-good-requires
 magic-good-requires c κs = search needs

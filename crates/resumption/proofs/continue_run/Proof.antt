@@ -1,9 +1,9 @@
 use mathlib.Core.Path.{sym, _∙_}
 use Rattle.flash.specs.Base.{base, build}
-use Rattle.decision.specs.FollowLaws.{continue-legal, continue-damage}
+use Rattle.resumption.specs.FollowLaws.{continue-legal, continue-damage}
 use borrow.Author.Needs.{needs}
-use Rattle.decision.proofs.continue_run.Statement.{statement}
-use Rattle.decision.proofs.continue_run.Tie as tie
+use Rattle.resumption.proofs.continue_run.Statement.{statement}
+use Rattle.resumption.proofs.continue_run.Tie as tie
 
 legal-run-requires : tie.Need-legal-run-requires
 legal-run-requires c κs = search needs
