@@ -18,17 +18,17 @@ pub const IMAGE_OK: usize = 1000;
 const MAGIC: usize = 1008;
 
 pub fn erase(flash: &mut Flash) {
-    spans::fill(flash, 0, 3072);
+    store::fill(flash, 0, 3072);
 }
 
 pub fn put(flash: &mut Flash, at: usize, byte: u8) {
-    spans::copy(&[byte], 0, flash, at, 1);
+    store::copy(&[byte], 0, flash, at, 1);
 }
 
 pub fn put_magic(flash: &mut Flash, area: usize)
     requires { ⌜ area ≤ 2048 ⌝ }
 {
-    spans::copy(
+    store::copy(
         b"\x77\xc2\x95\xf3\x60\xd2\xef\x7f\x35\x52\x50\x0f\x2c\xb6\x79\x80",
         0,
         flash,
@@ -46,8 +46,8 @@ fn digest_of_first(bytes: &[u8], covered: usize, digest: &mut [u8; 32]) {
 fn put_digest(image: &mut [u8; 96], covered: usize, digest: &[u8; 32])
     requires { ⌜ covered ≤ 60 ⌝ }
 {
-    spans::copy(b"\x01\x00\x20\x00", 0, image, covered, 4);
-    spans::copy(digest, 0, image, covered + 4, 32);
+    store::copy(b"\x01\x00\x20\x00", 0, image, covered, 4);
+    store::copy(digest, 0, image, covered + 4, 32);
 }
 
 // The digest record of what it covers goes behind it.
@@ -60,12 +60,12 @@ fn seal(image: &mut [u8; 96], covered: usize)
 }
 
 fn put_header(image: &mut [u8; 96], header: u8) {
-    spans::copy(b"\x3c\xb8\xf3\x96\x24\x00\x00\x00", 0, image, 0, 8);
-    spans::copy(&[header, 0, 0, 0, 8, 0, 0, 0], 0, image, 8, 8);
+    store::copy(b"\x3c\xb8\xf3\x96\x24\x00\x00\x00", 0, image, 0, 8);
+    store::copy(&[header, 0, 0, 0, 8, 0, 0, 0], 0, image, 8, 8);
 }
 
 fn lay(flash: &mut Flash, area: usize, image: &[u8; 96]) {
-    spans::copy(image, 0, flash, area, 96);
+    store::copy(image, 0, flash, area, 96);
 }
 
 // An image: magic, 36 bytes of records, the header size, a body of 8 bytes.

@@ -9,14 +9,14 @@ type Area = [u8; 1024];
 
 fn area_at(flash: &Flash, at: usize) -> Area {
     let mut area = [0u8; 1024];
-    spans::copy(flash, at, &mut area, 0, 1024);
+    store::copy(flash, at, &mut area, 0, 1024);
     area
 }
 
 fn back(flash: &mut Flash, slot0: &Area, slot1: &Area, scratch: &Area) {
-    spans::copy(slot0, 0, flash, 0, 1024);
-    spans::copy(slot1, 0, flash, SLOT1, 1024);
-    spans::copy(scratch, 0, flash, SCRATCH, 1024);
+    store::copy(slot0, 0, flash, 0, 1024);
+    store::copy(slot1, 0, flash, SLOT1, 1024);
+    store::copy(scratch, 0, flash, SCRATCH, 1024);
 }
 
 pub fn start(flash: &mut Flash, allowance: u64) -> Numbers {

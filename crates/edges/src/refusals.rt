@@ -24,7 +24,7 @@ pub fn lengths(flash: &mut Flash) {
 fn with_marks(flash: &mut Flash, one: u8, two: u8, three: u8) {
     flashes::two_images(flash);
     flashes::put_magic(flash, 0);
-    spans::copy(&[one, two, three], 0, flash, flashes::MARKS, 3);
+    store::copy(&[one, two, three], 0, flash, flashes::MARKS, 3);
 }
 
 fn start_with_marks(name: &[u8], flash: &mut Flash, one: u8, two: u8, three: u8, allowance: u64) {

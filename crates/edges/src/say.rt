@@ -6,7 +6,7 @@ use answers::numbers::Numbers;
 
 fn copied(flash: &Flash) -> Flash {
     let mut copy = [0u8; 3072];
-    spans::copy(flash, 0, &mut copy, 0, 3072);
+    store::copy(flash, 0, &mut copy, 0, 3072);
     copy
 }
 
@@ -36,7 +36,7 @@ fn write_marked(name: &[u8], marked: MarkNumbers) {
 }
 
 pub fn same(flash: &Flash, other: &Flash) -> bool {
-    spans::stands(flash, 0, other)
+    compare::stands(flash, 0, other)
 }
 
 fn end_line(flash: &Flash, was: &Flash) {

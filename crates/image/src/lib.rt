@@ -109,7 +109,7 @@ fn digest_at(image: &[u8], covered: usize, at: usize) -> Verdict
 {
     let mut digest = [0u8; 32];
     sha256::digest(&image[0..covered], &mut digest);
-    if spans::stands(image, at, &digest[..32]) {
+    if compare::stands(image, at, &digest[..32]) {
         Verdict::Accepted
     } else {
         Verdict::Rejected(Cause::DigestDiffers)

@@ -15,19 +15,19 @@ fn put(image: &mut [u8], at: usize, byte: u8) {
 // A header of 32 bytes that says these sizes.
 fn lay(image: &mut [u8], records: u8, header: u8, body: u8, body_high: u8) {
     let all = image.len();
-    spans::fill(image, 0, all);
-    spans::copy(&[60, 184, 243, 150, 0, 0, 0, 0], 0, image, 0, 8);
-    spans::copy(&[records, 0, 0, 0, header, 0, 0, 0], 0, image, 4, 8);
-    spans::copy(&[body, body_high, 0, 0], 0, image, 12, 4);
+    store::fill(image, 0, all);
+    store::copy(&[60, 184, 243, 150, 0, 0, 0, 0], 0, image, 0, 8);
+    store::copy(&[records, 0, 0, 0, header, 0, 0, 0], 0, image, 4, 8);
+    store::copy(&[body, body_high, 0, 0], 0, image, 12, 4);
 }
 
 // The head of a record.
 fn record(image: &mut [u8], at: usize, kind: u8, size: u8) {
-    spans::copy(&[kind, 0, size, 0], 0, image, at, 4);
+    store::copy(&[kind, 0, size, 0], 0, image, at, 4);
 }
 
 fn store(image: &mut [u8], at: usize, digest: &[u8; 32]) {
-    spans::copy(digest, 0, image, at, 32);
+    store::copy(digest, 0, image, at, 32);
 }
 
 // The digest of the bytes covered goes to its place.

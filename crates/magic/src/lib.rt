@@ -44,10 +44,10 @@ fn magic_in(g: Geometry, t: &[u8]) -> Magic
     let place = magic_place(g);
     let at = place.0;
     let want = magic_bytes();
-    if spans::stands(t, at, &want) {
+    if compare::stands(t, at, &want) {
         return Magic::Good;
     }
-    if spans::all_blank(t, at, 16) {
+    if compare::all_blank(t, at, 16) {
         Magic::Unset
     } else {
         Magic::Bad

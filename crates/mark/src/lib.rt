@@ -15,10 +15,10 @@ pub fn mark_in(g: Geometry, t: &[u8], place: Offset) -> Mark
 {
     let at = place.0;
     let unit = g.unit;
-    if spans::all_blank(t, at, unit) {
+    if compare::all_blank(t, at, unit) {
         return Mark::Unset;
     }
-    if spans::all_blank(t, at + 1, unit - 1) {
+    if compare::all_blank(t, at + 1, unit - 1) {
         Mark::Value(spans::byte_at(t, at))
     } else {
         Mark::Bad

@@ -33,7 +33,7 @@ pub fn erase(g: Geometry, area: &mut [u8], i: Sector, run: Run) -> Run
                 };
             }
             let at = flash::start_of(g, i);
-            spans::fill(area, at.0, g.sector);
+            store::fill(area, at.0, g.sector);
             Run {
                 left: run.left - 1,
                 end: End::Going,
@@ -56,7 +56,7 @@ fn is_erased(g: Geometry, area: &[u8], u: Unit) -> bool
     ensures { λ r. ⌜ r ≡ erased g u (now (area .entry)) ⌝ }
 {
     let at = flash::place_of(g, u);
-    spans::all_blank(area, at.0, g.unit)
+    compare::all_blank(area, at.0, g.unit)
 }
 
 fn count_blank(g: Geometry, area: &[u8], u: Unit, n: usize) -> usize
@@ -84,7 +84,7 @@ fn blank_units(g: Geometry, area: &[u8], u: Unit, n: usize) -> usize
 {
     let at = flash::place_of(g, u);
     let bytes = flash::place_of(g, Unit(n));
-    if spans::all_blank(area, at.0, bytes.0) {
+    if compare::all_blank(area, at.0, bytes.0) {
         n
     } else {
         count_blank(g, area, u, n)
@@ -143,7 +143,7 @@ fn write_blocks(
 {
     let at = flash::place_of(g, to);
     let bytes = flash::place_of(g, Unit(reached));
-    spans::copy_blank(src, from.0, dst, at.0, bytes.0)
+    store::copy_blank(src, from.0, dst, at.0, bytes.0)
 }
 
 // Of the units of dst from to on, as many as are erased up to the first that is not are given the bytes of src from from on. Behind
@@ -166,7 +166,7 @@ fn write_erased(
     let more = blank_units(g, dst, Unit(to.0 + done), reached - done);
     let at = flash::place_of(g, to);
     let rest = flash::place_of(g, Unit(more));
-    spans::copy(src, from.0 + blocks * 512, dst, at.0 + blocks * 512, rest.0);
+    store::copy(src, from.0 + blocks * 512, dst, at.0 + blocks * 512, rest.0);
     done + more
 }
 

@@ -31,7 +31,7 @@ pub fn finish(message: &[u8], from: usize, tail: &mut [u8]) -> usize
     let size = message.len();
     let rest = size - from;
     let count = (rest + 72) / 64;
-    spans::copy(message, from, tail, 0, rest);
+    store::copy(message, from, tail, 0, rest);
     tail[rest] = 128;
     put_length(tail, 64 * count - 8, size);
     count

@@ -2,7 +2,6 @@ pub mod Bytes
 pub mod Choice
 pub mod Laws
 pub mod CutOff
-pub mod Folds
 pub mod Blanks
 pub mod Runs
 pub mod Words

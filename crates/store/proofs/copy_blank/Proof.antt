@@ -1,9 +1,9 @@
 use mathlib.Core.Path.{ap, ap₂, _∙_}
 use Prim.Native.Nat.{ℕ, _/_, min}
 use Rattle.spans.specs.Blanks.{blanks}
 use borrow.Author.Needs.{needs}
-use Rattle.spans.proofs.copy_blank.Statement.{statement}
-use Rattle.spans.proofs.copy_blank.Tie as tie
+use Rattle.store.proofs.copy_blank.Statement.{statement}
+use Rattle.store.proofs.copy_blank.Tie as tie
 
 room-requires : tie.Need-room-requires
 room-requires c κs = search needs

@@ -3,10 +3,10 @@ use Prim.Native.Nat.{_≤_, _-_, ℕ}
 use native.Mathlib.Omega.{arith}
 use borrow.Author.Needs.{needs}
 use lib.ListN.{length}
 use Rattle.spans.specs.Bytes.{put, blank}
 use Rattle.spans.specs.Laws.{length-put, put-nil, erase-next}
-use Rattle.spans.proofs.fill_within.Statement.{statement}
-use Rattle.spans.proofs.fill_within.Tie as tie
+use Rattle.store.proofs.fill_within.Statement.{statement}
+use Rattle.store.proofs.fill_within.Tie as tie
 
 abbrev Inv-loop : tie.InvT-loop
 Inv-loop area₀ at size i₀ area i = (i ≤ size) × (area ≡ put area₀ at (blank i))

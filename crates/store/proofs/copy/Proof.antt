@@ -1,7 +1,7 @@
 use Rattle.spans.specs.CutOff.{copy-least}
 use borrow.Author.Needs.{needs}
-use Rattle.spans.proofs.copy.Statement.{statement}
-use Rattle.spans.proofs.copy.Tie as tie
+use Rattle.store.proofs.copy.Statement.{statement}
+use Rattle.store.proofs.copy.Tie as tie
 
 room-requires : tie.Need-room-requires
 room-requires c κs = search needs

@@ -1,7 +1,7 @@
 use Rattle.spans.specs.CutOff.{blank-least}
 use borrow.Author.Needs.{needs}
-use Rattle.spans.proofs.fill.Statement.{statement}
-use Rattle.spans.proofs.fill.Tie as tie
+use Rattle.store.proofs.fill.Statement.{statement}
+use Rattle.store.proofs.fill.Tie as tie
 
 room-requires : tie.Need-room-requires
 room-requires c κs = search needs

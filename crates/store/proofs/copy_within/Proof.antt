@@ -3,10 +3,10 @@ use Prim.Native.Nat.{_≤_, _-_, ℕ}
 use native.Mathlib.Omega.{arith}
 use borrow.Author.Needs.{needs}
 use lib.ListN.{length}
 use Rattle.spans.specs.Bytes.{put, part}
 use Rattle.spans.specs.Laws.{length-put, put-nil, copy-next}
-use Rattle.spans.proofs.copy_within.Statement.{statement}
-use Rattle.spans.proofs.copy_within.Tie as tie
+use Rattle.store.proofs.copy_within.Statement.{statement}
+use Rattle.store.proofs.copy_within.Tie as tie
 
 abbrev Inv-loop : tie.InvT-loop
 Inv-loop src from dst₀ at size i₀ dst i = (i ≤ size) × (dst ≡ put dst₀ at (part src from i))

@@ -5,11 +5,11 @@ use lib.Bits.{and-lt}
 use mathlib.Core.Path.{_≡_}
 use Prim.Native.Nat.{_≤_, _<_, _-_}
 use lib.Dec.{eqb}
 use Rattle.spans.specs.Bytes.{part, blank, same}
-use Rattle.spans.specs.Folds.{blank-fold}
+use Rattle.compare.specs.Folds.{blank-fold}
 use borrow.Author.Needs.{needs}
-use Rattle.spans.proofs.blank_within.Statement.{statement}
-use Rattle.spans.proofs.blank_within.Tie as tie
+use Rattle.compare.proofs.blank_within.Statement.{statement}
+use Rattle.compare.proofs.blank_within.Tie as tie
 
 abbrev Inv-loop : tie.InvT-loop
 Inv-loop area at size all₀ i₀ all i = (i ≤ size) × (all < 256) × (eqb all 255 ≡ same (part area at i) (blank i))

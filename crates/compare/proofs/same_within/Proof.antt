@@ -6,11 +6,11 @@ use mathlib.Core.Path.{_≡_}
 use Prim.Native.Nat.{_≤_, _-_}
 use lib.Dec.{eqb}
 use lib.ListN.{length}
 use Rattle.spans.specs.Bytes.{part, same}
-use Rattle.spans.specs.Folds.{same-fold}
+use Rattle.compare.specs.Folds.{same-fold}
 use borrow.Author.Needs.{needs}
-use Rattle.spans.proofs.same_within.Statement.{statement}
-use Rattle.spans.proofs.same_within.Tie as tie
+use Rattle.compare.proofs.same_within.Statement.{statement}
+use Rattle.compare.proofs.same_within.Tie as tie
 
 abbrev Inv-loop : tie.InvT-loop
 Inv-loop area at want differ₀ i₀ differ i = (i ≤ length want) × (eqb differ 0 ≡ same (part area at i) (part want 0 i))

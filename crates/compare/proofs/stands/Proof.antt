@@ -2,10 +2,10 @@ use mathlib.Core.Path.{sym}
 use native.Mathlib.Omega.{arith}
 use mathlib.Core.Path.{refl}
 use lib.ListN.{length}
-use Rattle.spans.specs.Folds.{short-part}
+use Rattle.compare.specs.Folds.{short-part}
 use borrow.Author.Needs.{needs}
-use Rattle.spans.proofs.stands.Statement.{statement}
-use Rattle.spans.proofs.stands.Tie as tie
+use Rattle.compare.proofs.stands.Statement.{statement}
+use Rattle.compare.proofs.stands.Tie as tie
 
 room-requires : tie.Need-room-requires
 room-requires c κs = search needs

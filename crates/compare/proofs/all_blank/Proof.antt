@@ -1,11 +1,11 @@
 use mathlib.Core.Path.{sym}
 use native.Mathlib.Omega.{arith}
 use Rattle.spans.specs.Bytes.{blank}
 use Rattle.spans.specs.Laws.{length-blank}
-use Rattle.spans.specs.Folds.{short-part}
+use Rattle.compare.specs.Folds.{short-part}
 use borrow.Author.Needs.{needs}
-use Rattle.spans.proofs.all_blank.Statement.{statement}
-use Rattle.spans.proofs.all_blank.Tie as tie
+use Rattle.compare.proofs.all_blank.Statement.{statement}
+use Rattle.compare.proofs.all_blank.Tie as tie
 
 room-requires : tie.Need-room-requires
 room-requires c κs = search needs

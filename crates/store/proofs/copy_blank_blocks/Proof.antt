@@ -4,13 +4,13 @@ use Prim.Native.Nat.{ℕ, _+_, _*_, _-_, _≤_}
 use native.Mathlib.Omega.{arith}
 use lib.ListN.{length}
 use mathlib.Core.List.{List}
 use Rattle.spans.specs.Bytes.{put, part, blank, same}
 use Rattle.spans.specs.Laws.{length-put, put-nil}
 use Rattle.spans.specs.CutOff.{copy-more}
 use Rattle.spans.specs.Blanks.{blanks, blanks-next, blanks-stop, behind-copy}
 use borrow.Author.Needs.{needs}
-use Rattle.spans.proofs.copy_blank_blocks.Statement.{statement}
-use Rattle.spans.proofs.copy_blank_blocks.Tie as tie
+use Rattle.store.proofs.copy_blank_blocks.Statement.{statement}
+use Rattle.store.proofs.copy_blank_blocks.Tie as tie
 
 abbrev Inv-loop : tie.InvT-loop
 Inv-loop src from dst₀ at blocks k₀ dst k =
@@ -28,14 +28,14 @@ loop-holds c =
     let d : given .blocks - 0 ≡ given .blocks = omega arith in
     (omega arith, sym (put-nil _ _), rw (e, d) (omega arith))
 
-mul-blank-within : tie.Need-mul-blank-within Inv-loop μ-loop
-mul-blank-within c = search needs
+mul-all-blank : tie.Need-mul-all-blank Inv-loop μ-loop
+mul-all-blank c = search needs
 
-add-blank-within : tie.Need-add-blank-within Inv-loop μ-loop
-add-blank-within c = search needs
+add-all-blank : tie.Need-add-all-blank Inv-loop μ-loop
+add-all-blank c = search needs
 
-blank-within-requires : tie.Need-blank-within-requires Inv-loop μ-loop
-blank-within-requires c κs = omega (arith, simp length-put at (ap length (c .before .before .loop .inv .1)))
+all-blank-requires : tie.Need-all-blank-requires Inv-loop μ-loop
+all-blank-requires c κs = search needs
 
 mul-copy-within : tie.Need-mul-copy-within Inv-loop μ-loop
 mul-copy-within c = search needs
@@ -67,7 +67,7 @@ loop-again c =
     let looked : same (part (given .dst .now) (given .at + loop .k * 512) 512) (blank 512) ≡ true =
     ap (λ (ys : List ℕ). same ys (blank 512)) (sym (ap (λ (xs : List ℕ). part xs (given .at + loop .k * 512) 512) (loop .inv .1)
     ∙ behind-copy (given .dst .now) (given .at) (given .src .now) (given .from) (loop .k) 512))
-    ∙ sym (c .before .before .before .before .before .blank-within .ensures) ∙ c .before .before .before .before .if1 .taken in (
+    ∙ sym (c .before .before .before .before .before .all-blank .ensures) ∙ c .before .before .before .before .if1 .taken in (
       omega arith,
       c .before .before .copy-within .ensures
           ∙ ap (λ (ys : List ℕ). put ys (given .at + loop .k * 512) (part (given .src .now) (given .from + loop .k * 512) 512)) (loop .inv .1)
@@ -86,7 +86,7 @@ returns c =
     let looked : same (part (given .dst .now) (given .at + loop .k * 512) 512) (blank 512) ≡ false =
     ap (λ (ys : List ℕ). same ys (blank 512)) (sym (ap (λ (xs : List ℕ). part xs (given .at + loop .k * 512) 512) (loop .inv .1)
     ∙ behind-copy (given .dst .now) (given .at) (given .src .now) (given .from) (loop .k) 512))
-    ∙ sym (c .before .blank-within .ensures) ∙ c .if1 .left in
+    ∙ sym (c .before .all-blank .ensures) ∙ c .if1 .left in
     (sym (loop .inv .2 ∙ blanks-stop 512 (given .at) (given .blocks) (loop .k) (given .dst .now) (omega arith) looked), loop .inv .1)
 
 same-length-2 : tie.Need-same-length-2 Inv-loop μ-loop
@@ -107,9 +107,9 @@ copy-blank-blocks-spec =
     Inv-loop
     μ-loop
     loop-holds
-    mul-blank-within
-    add-blank-within
-    blank-within-requires
+    mul-all-blank
+    add-all-blank
+    all-blank-requires
     mul-copy-within
     add-copy-within
     mul-copy-within-2
