@@ -10,6 +10,7 @@ use lib.Bits.{bitAnd, bitOr, bitXor, and-self, and-le-l, and-le-r, or-add-and, x
 use lib.Dec.{eqb}
 use borrow.Author.Tests.{eqb-true, eqb-false, eq-eqb, ne-eqb}
 use Rattle.spans.specs.Bytes.{part, blank, same}
+use Rattle.spans.specs.Choice.{and-true}
 use Rattle.spans.specs.Laws.{length-part, length-blank, part-next, blank-next}
 
 and-full : (x v : ℕ) → x < 256 → v < 256 → eqb (bitAnd x v) 255 ≡ (eqb x 255 && eqb v 255)
@@ -49,10 +50,6 @@ or-none d a b = go (eqb d 0) (eqb a b) refl refl
         ne-eqb (bitOr d (bitXor a b)) 0
         (λ e. n (omega (arith, or-add-and d (bitXor a b), and-le-l d (bitXor a b), and-le-r d (bitXor a b))))
 
-and-all : (b : Bool) → (b && true) ≡ b
-and-all true = refl
-and-all false = refl
-
 same-append : (xs ys us vs : List ℕ) → length xs ≡ length ys → same (xs ++ us) (ys ++ vs) ≡ (same xs ys && same us vs)
 unfolding same
 same-append [] [] us vs h = refl
@@ -67,7 +64,7 @@ same-append (a ∷ xs) (b ∷ ys) us vs h = go (eqb a b) (same-append xs ys us v
 
 same-snoc : (xs ys : List ℕ) (x y : ℕ) → length xs ≡ length ys → same (xs ++ (x ∷ [])) (ys ++ (y ∷ [])) ≡ (same xs ys && eqb x y)
 unfolding same
-same-snoc xs ys x y h = same-append xs ys (x ∷ []) (y ∷ []) h ∙ ap (λ (b : Bool). same xs ys && b) (and-all (eqb x y))
+same-snoc xs ys x y h = same-append xs ys (x ∷ []) (y ∷ []) h ∙ ap (λ (b : Bool). same xs ys && b) (and-true (eqb x y))
 
 -- lists of different lengths are not the same
 pub same-lengths : (xs ys : List ℕ) → (length xs ≡ length ys → ⊥) → same xs ys ≡ false

@@ -1,15 +1,16 @@
 -- The questions that `fits` asks of the base build, in the three parts in which code asks them, and the bounds that follow.
-use mathlib.Core.Path.{_≡_, refl, sym, subst, _∙_}
+use mathlib.Core.Path.{_≡_, refl, sym, _∙_}
 use mathlib.Core.List.{List, [], _∷_}
-use mathlib.Core.Bool.{Bool, true, false, _&&_, false≢true, _||_}
+use mathlib.Core.Bool.{Bool, true, false, _&&_, _||_}
 use Prim.Native.Nat.{ℕ, _+_, _*_, _/_, _%_, _≤_, _<_}
 use native.Mathlib.Omega.{arith}
 use lib.Dec.{eqb, leb}
-use borrow.Author.Tests.{eqb-true, leb-true}
+use borrow.Author.Tests.{leb-true}
 use Rattle.spans.specs.Choice.{every, both}
 use Rattle.flash.specs.declared.Geometry.{Geometry}
 use Rattle.flash.specs.Build.{asked, fits}
 use Rattle.flash.specs.Base.{base, build}
+use Rattle.flash.specs.Units.{each-unit}
 use Rattle.flash.specs.Small.{Small}
 
 unfoldable pub unitAsked : ℕ → Bool
@@ -27,32 +28,18 @@ and-assoc : (a b c : Bool) → ((a && b) && c) ≡ (a && (b && c))
 and-assoc true b c = refl
 and-assoc false b c = refl
 
-pub and-true : (a : Bool) → (a && true) ≡ a
-and-true true = refl
-and-true false = refl
-
 pub in-parts : (g : Geometry) (l0 l1 l2 : ℕ)
     → fits (build g) l0 l1 l2 ≡ (unitAsked (g .unit) && (every (sizesAsked g) && every (lengthsAsked g l0 l1 l2)))
 unfolding fits asked base unitAsked sizesAsked lengthsAsked every
 in-parts g l0 l1 l2 = simp and-assoc
 
--- what holds of 1, 2, 4 and 8 holds of a unit that is taken
-pub each-unit : (P : ℕ → Type 0) → P 1 → P 2 → P 4 → P 8 → (w : ℕ) → unitAsked w ≡ true → P w
-unfolding unitAsked
-each-unit P p1 p2 p4 p8 w h = go (eqb w 1) (eqb w 2) (eqb w 4) (eqb w 8) refl refl refl refl h
-  where
-    go : (a b c d : Bool) → eqb w 1 ≡ a → eqb w 2 ≡ b → eqb w 4 ≡ c → eqb w 8 ≡ d → (a || b || c || d) ≡ true → P w
-    go true b c d p q r s t = subst P (sym (eqb-true w 1 p)) p1
-    go false true c d p q r s t = subst P (sym (eqb-true w 2 q)) p2
-    go false false true d p q r s t = subst P (sym (eqb-true w 4 r)) p4
-    go false false false true p q r s t = subst P (sym (eqb-true w 8 s)) p8
-    go false false false false p q r s t = absurd (false≢true t)
-
 pub unit-bounds : (w : ℕ) → unitAsked w ≡ true → (0 < w) × (w ≤ 8)
+unfolding unitAsked
 unit-bounds =
     each-unit (λ w. (0 < w) × (w ≤ 8)) (omega arith, omega arith) (omega arith, omega arith) (omega arith, omega arith) (omega arith, omega arith)
 
 unit-whole : (w : ℕ) → unitAsked w ≡ true → 512 / w * w ≡ 512
+unfolding unitAsked
 unit-whole = each-unit (λ w. 512 / w * w ≡ 512) refl refl refl refl
 
 pub small : (g : Geometry) → unitAsked (g .unit) ≡ true → every (sizesAsked g) ≡ true → Small g

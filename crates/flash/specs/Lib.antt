@@ -4,6 +4,7 @@ pub mod Base
 pub mod BaseLaws
 pub mod Operations
 pub mod Harm
+pub mod Units
 pub mod Small
 pub mod AreaLaws
 pub mod OperationLaws

@@ -1,11 +1,13 @@
 -- Document 01, "What a power-up does": what is asked before what.
 use mathlib.Core.Path.{_≡_}
 use mathlib.Core.List.{List}
-use mathlib.Core.Bool.{true, false, _&&_}
+use mathlib.Core.Bool.{Bool, true, false, _&&_}
 use Prim.Native.Nat.{ℕ}
+use Rattle.spans.specs.Choice.{pick}
 use Rattle.flash.specs.Build.{Build}
 use Rattle.trailer.specs.Trailer.{okAt, copyDoneAt, magicOf, markOf, isGood, isUnset, hasValue}
-use Rattle.plan.specs.declared.Course.the-variants.{Test, Permanent}
+use Rattle.plan.specs.declared.Course.{Course}
+use Rattle.plan.specs.declared.Course.the-variants.{Damage, FromLineThree, Test, Permanent}
 use Rattle.plan.specs.Decision.{stepA, stepB, stateC, asks}
 
 module _ (g : Build) (t0 t1 t2 : List ℕ) where
@@ -29,3 +31,13 @@ module _ (g : Build) (t0 t1 t2 : List ℕ) where
       → stateC g t0 t1 ≡ Permanent
   unfolding stateC
   state-II e h v = rw (e, h, v)
+
+-- A goes on from line 3, or says damage
+pub by-A : (P : Course → Type 0) → ((p : Bool) → P (FromLineThree p)) → P Damage → (g : Build) (t : List ℕ) → P (stepA g t)
+unfolding stepA
+by-A P lines damage g t = go (isUnset (markOf g t (okAt g))) (hasValue 1 (markOf g t (okAt g)))
+  where
+    go : (a b : Bool) → P (pick a (FromLineThree false) (pick b (FromLineThree true) Damage))
+    go true b = lines false
+    go false true = lines true
+    go false false = damage

@@ -15,6 +15,7 @@ use Rattle.trailer.specs.Trailer.{trailer, okAt, magicOf, markOf, isGood, isUns
 use Rattle.plan.specs.declared.Course.{Course}
 use Rattle.plan.specs.declared.Course.the-variants.{Damage, FromLineThree, Resume, Test, Permanent, Revert, Clear, Nothing}
 use Rattle.plan.specs.Lists.{exchange}
+use Rattle.plan.specs.AskedBefore.{by-A}
 use Rattle.plan.specs.Decision.{stepA, stepB, stateC, asks, judged, decide, inForce}
 use Rattle.recovery.specs.Cuts.{run-all}
 use Rattle.recovery.specs.Statement.{Failures, Exchange, by-test, by-permanent, by-revert, Due, Sound}
@@ -41,13 +42,8 @@ of-exchange by-permanent = refl
 of-exchange by-revert = refl
 
 not-by-A : (g : Build) (t : List ℕ) (accepted : Bool) → exchanges (judged accepted (stepA g t)) ≡ false
-unfolding stepA exchanges judged
-not-by-A g t accepted = go (isUnset (markOf g t (okAt g))) (hasValue 1 (markOf g t (okAt g)))
-  where
-    go : (a b : Bool) → exchanges (judged accepted (pick a (FromLineThree false) (pick b (FromLineThree true) Damage))) ≡ false
-    go true b = refl
-    go false true = refl
-    go false false = refl
+unfolding exchanges judged
+not-by-A g t accepted = by-A (λ c. exchanges (judged accepted c) ≡ false) (λ p. refl) refl g t
 
 -- "with scratch magic not Good"
 pub quiet : {check : List ℕ → Bool} {g : Build} {f : Flash} {course : Course} {p : Bool} → Due check g f course p

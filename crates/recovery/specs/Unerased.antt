@@ -17,6 +17,7 @@ use Rattle.trailer.specs.Trailer.{trailer, okAt, copyDoneAt, markAt, magicOf, m
 use Rattle.plan.specs.declared.Course.{Course}
 use Rattle.plan.specs.declared.Course.the-variants.{Damage, FromLineThree, Resume, Test, Permanent, Revert, Clear, Nothing}
 use Rattle.plan.specs.Lists.{eraseTrailer, okOps, dataOps, erases, clearOut}
+use Rattle.plan.specs.AskedBefore.{by-A}
 use Rattle.plan.specs.Decision.{stepA, continue, stepB, stateC, asks, judged, decide, listOf, okUnset, inForce}
 use Rattle.recovery.specs.All.{all-drop}
 use Rattle.recovery.specs.Places.{Geo, Sized}
@@ -49,13 +50,8 @@ resumed-judged accepted Clear h = h
 resumed-judged accepted Nothing h = h
 
 not-by-A : (g : Build) (t : List ℕ) {c : ℕ} → stepA g t ≡ Resume c → ⊥
-unfolding stepA
-not-by-A g t {c} = go (isUnset (markOf g t (okAt g))) (hasValue 1 (markOf g t (okAt g)))
-  where
-    go : (a b : Bool) → pick a (FromLineThree false) (pick b (FromLineThree true) Damage) ≡ Resume c → ⊥
-    go true b h = let z : _≡_ {A = ℕ} 0 1 = cc in omega arith
-    go false true h = let z : _≡_ {A = ℕ} 0 1 = cc in omega arith
-    go false false h = let z : _≡_ {A = ℕ} 0 1 = cc in omega arith
+not-by-A g t {c} =
+    by-A (λ d. d ≡ Resume c → ⊥) (λ p h. let z : _≡_ {A = ℕ} 0 1 = cc in omega arith) (λ h. let z : _≡_ {A = ℕ} 0 1 = cc in omega arith) g t
 
 not-by-C : (g : Build) (t0 t1 : List ℕ) {c : ℕ} → stateC g t0 t1 ≡ Resume c → ⊥
 unfolding stateC

@@ -1,7 +1,7 @@
 -- What a valid geometry gives.
-use mathlib.Core.Path.{_≡_, refl, sym, ap, _∙_, subst}
+use mathlib.Core.Path.{_≡_, refl, ap, _∙_}
 use mathlib.Core.List.{List}
-use mathlib.Core.Bool.{Bool, true, false, false≢true, _||_}
+use mathlib.Core.Bool.{Bool, true, _||_}
 use Prim.Native.Nat.{ℕ, suc, _+_, _*_, _-_, _%_, _≤_, _<_}
 use Prim.Native.Nat.{_∣_}
 use native.Mathlib.Nat.{dvd-of-mod-eq-zero, mul-le-mul-right}
@@ -10,22 +10,15 @@ use lib.ListN.{length, drop, length-drop}
 use lib.Dec.{eqb}
 use borrow.Author.Tests.{eqb-true, leb-true}
 use Rattle.flash.specs.Build.{Area, slot0, slot1, scratch, Build, Flash, area, asked, fits, valid}
+use Rattle.flash.specs.Units.{each-unit}
 use Rattle.trailer.specs.Trailer.{trailer}
 use Rattle.recovery.specs.All.{All, none, one, every-all}
 use Rattle.recovery.specs.Places.{Geo, Sized}
 
 units : (w : ℕ) → (eqb w 1 || eqb w 2 || eqb w 4 || eqb w 8) ≡ true → (0 < w) × (w ∣ 8)
-units w h = go (eqb w 1) (eqb w 2) (eqb w 4) (eqb w 8) refl refl refl refl h
-  where
-    is : (k : ℕ) → (0 < k) × (k ∣ 8) → eqb w k ≡ true → (0 < w) × (w ∣ 8)
-    is k h e = subst (λ (x : ℕ). (0 < x) × (x ∣ 8)) (sym (eqb-true w k e)) h
-
-    go : (a b c d : Bool) → eqb w 1 ≡ a → eqb w 2 ≡ b → eqb w 4 ≡ c → eqb w 8 ≡ d → (a || b || c || d) ≡ true → (0 < w) × (w ∣ 8)
-    go true b c d p q r s t = is 1 (omega arith, dvd-of-mod-eq-zero 1 refl) p
-    go false true c d p q r s t = is 2 (omega arith, dvd-of-mod-eq-zero 2 refl) q
-    go false false true d p q r s t = is 4 (omega arith, dvd-of-mod-eq-zero 4 refl) r
-    go false false false true p q r s t = is 8 (omega arith, dvd-of-mod-eq-zero 8 refl) s
-    go false false false false p q r s t = absurd (false≢true t)
+units =
+    each-unit (λ w. (0 < w) × (w ∣ 8)) (omega arith, dvd-of-mod-eq-zero 1 refl) (omega arith, dvd-of-mod-eq-zero 2 refl)
+    (omega arith, dvd-of-mod-eq-zero 4 refl) (omega arith, dvd-of-mod-eq-zero 8 refl)
 
 pub record Valid (g : Build) (f : Flash) : Type 0 where
   pub geo : Geo g

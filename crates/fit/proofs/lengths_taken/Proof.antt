@@ -3,7 +3,8 @@ use native.Mathlib.Nat.{mul-le-mul}
 use native.Mathlib.Omega.{arith}
 use borrow.Author.Tests.{eq-eqb, ne-eqb}
 use Rattle.spans.specs.Choice.{every}
-use Rattle.fit.specs.Taken.{lengthsAsked, and-true}
+use Rattle.spans.specs.Choice.{and-true}
+use Rattle.fit.specs.Taken.{lengthsAsked}
 use borrow.Author.Needs.{needs}
 use Rattle.fit.proofs.lengths_taken.Statement.{statement}
 use Rattle.fit.proofs.lengths_taken.Tie as tie

@@ -1,7 +1,8 @@
 use Prim.Native.Nat.{_+_, _*_, _%_}
 use borrow.Author.Tests.{eq-eqb, ne-eqb, le-leb, lt-leb}
 use Rattle.spans.specs.Choice.{every}
-use Rattle.fit.specs.Taken.{sizesAsked, and-true}
+use Rattle.spans.specs.Choice.{and-true}
+use Rattle.fit.specs.Taken.{sizesAsked}
 use borrow.Author.Needs.{needs}
 use Rattle.fit.proofs.sizes_taken.Statement.{statement}
 use Rattle.fit.proofs.sizes_taken.Tie as tie
