@@ -1,14 +1,13 @@
 -- A run of unit writes under an allowance, all at once: as many units as are allowed and erased are written, and the rest not.
 use mathlib.Core.Path.{_≡_, refl, sym, ap, ap₂, _∙_}
-use mathlib.Core.List.{List, []}
+use mathlib.Core.List.{List}
 use mathlib.Core.Bool.{Bool, true, false}
 use Prim.Native.Nat.{ℕ, zero, suc, _+_, _*_, _-_, _≤_, _<_, min}
 use native.Mathlib.Nat.{zero-mul, suc-min-suc, mul-le-mul-right}
 use native.Mathlib.Omega.{arith}
-use lib.ListN.{length, take, drop, length-take, drop-of-length-le}
-use lib.Seq.{take-add, take-all, take-nil, take-take}
+use lib.ListN.{length, take, drop, length-take}
+use lib.Seq.{take-take}
 use lib.Dec.{ltb, leb·zero, leb·suc-zero, leb·suc-suc, eqb·suc-zero}
-use borrow.Author.Tests.{ltb-true, ltb-false}
 use Rattle.spans.specs.Bytes.{part, put, blank}
 use Rattle.spans.specs.Choice.{pick}
 use Rattle.spans.specs.Laws.{put-nil}

@@ -11,7 +11,7 @@ use Rattle.spans.specs.Choice.{pick}
 use Rattle.flash.specs.declared.End.the-variants.{Going, Stopped}
 use Rattle.flash.specs.Build.{slot0, slot1, scratch, Build, Flash}
 use Rattle.flash.specs.Operations.{run, runAll, State, steps, start}
-use Rattle.trailer.specs.Trailer.{trailer, okAt, magicOf, markOf, isGood, isUnset, hasValue}
+use Rattle.trailer.specs.Trailer.{trailer, magicOf, isGood}
 use Rattle.plan.specs.declared.Course.{Course}
 use Rattle.plan.specs.declared.Course.the-variants.{Damage, FromLineThree, Resume, Test, Permanent, Revert, Clear, Nothing}
 use Rattle.plan.specs.Lists.{exchange}
