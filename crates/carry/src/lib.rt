@@ -26,7 +26,9 @@ fn lines_three_to_six(
     run: Run,
 ) -> Run
     requires { ⌜ Small g ⌝ }
-    ensures { λ r. ⌜ state (now (slot0 .exit)) (now (slot1 .exit)) (now (scratch .exit)) r ≡ steps (build g) (linesThreeToSix (build g) lasting) (state (now (slot0 .entry)) (now (slot1 .entry)) (now (scratch .entry)) run) ⌝ }
+    ensures { λ r. ⌜ state (now (slot0 .exit)) (now (slot1 .exit)) (now (scratch .exit)) r
+        ≡ steps (build g) (linesThreeToSix (build g) lasting)
+        (state (now (slot0 .entry)) (now (slot1 .entry)) (now (scratch .entry)) run) ⌝ }
 {
     let last = g.sectors - 1;
     let three = operations::erase(g, slot1, Sector(last), run);
@@ -45,7 +47,9 @@ fn from_line_three(
     run: Run,
 ) -> Run
     requires { ⌜ Small g ⌝ }
-    ensures { λ r. ⌜ state (now (slot0 .exit)) (now (slot1 .exit)) (now (scratch .exit)) r ≡ steps (build g) (linesThreeToSix (build g) lasting ++ dataOps (build g) 3 (allMoves (g .sectors - 1))) (state (now (slot0 .entry)) (now (slot1 .entry)) (now (scratch .entry)) run) ⌝ }
+    ensures { λ r. ⌜ state (now (slot0 .exit)) (now (slot1 .exit)) (now (scratch .exit)) r
+        ≡ steps (build g) (linesThreeToSix (build g) lasting ++ dataOps (build g) 3 (allMoves (g .sectors - 1)))
+        (state (now (slot0 .entry)) (now (slot1 .entry)) (now (scratch .entry)) run) ⌝ }
 {
     let trailers = lines_three_to_six(g, slot0, slot1, scratch, lasting, run);
     moves::data_exchange(g, 3, slot0, slot1, scratch, trailers)
@@ -60,7 +64,8 @@ fn whole_exchange(
     run: Run,
 ) -> Run
     requires { ⌜ Small g ⌝ }
-    ensures { λ r. ⌜ state (now (slot0 .exit)) (now (slot1 .exit)) (now (scratch .exit)) r ≡ steps (build g) (exchange (build g) lasting) (state (now (slot0 .entry)) (now (slot1 .entry)) (now (scratch .entry)) run) ⌝ }
+    ensures { λ r. ⌜ state (now (slot0 .exit)) (now (slot1 .exit)) (now (scratch .exit)) r
+        ≡ steps (build g) (exchange (build g) lasting) (state (now (slot0 .entry)) (now (slot1 .entry)) (now (scratch .entry)) run) ⌝ }
 {
     let begun = lines::lines_one_two(g, scratch, lasting, run);
     from_line_three(g, slot0, slot1, scratch, lasting, begun)
@@ -69,7 +74,8 @@ fn whole_exchange(
 // The clear-out. Scratch, x2, has no part in it.
 fn clear_out(g: Geometry, slot0: &mut [u8], slot1: &mut [u8], unset: bool, run: Run) -> Run
     requires { ⌜ Small g ⌝ }
-    ensures { λ r. ⌜ ((x2 : List ℕ) → state (now (slot0 .exit)) (now (slot1 .exit)) x2 r ≡ steps (build g) (clearOut (build g) unset) (state (now (slot0 .entry)) (now (slot1 .entry)) x2 run)) ⌝ }
+    ensures { λ r. ⌜ ((x2 : List ℕ) → state (now (slot0 .exit)) (now (slot1 .exit)) x2 r
+        ≡ steps (build g) (clearOut (build g) unset) (state (now (slot0 .entry)) (now (slot1 .entry)) x2 run)) ⌝ }
 {
     let last = g.sectors - 1;
     let sectors = lines::erase_sectors(g, slot1, last, run);
@@ -95,7 +101,9 @@ pub fn carry_out(
 ) -> Run
     requires { ⌜ Small g ⌝ }
     requires { ⌜ inBounds (build g) course ≡ true ⌝ }
-    ensures { λ r. ⌜ state (now (slot0 .exit)) (now (slot1 .exit)) (now (scratch .exit)) r ≡ steps (build g) (listOf (build g) (okUnset (build g) (flashOf (now (slot0 .entry)) (now (slot1 .entry)) (now (scratch .entry)))) course) (state (now (slot0 .entry)) (now (slot1 .entry)) (now (scratch .entry)) run) ⌝ }
+    ensures { λ r. ⌜ state (now (slot0 .exit)) (now (slot1 .exit)) (now (scratch .exit)) r
+        ≡ steps (build g) (listOf (build g) (okUnset (build g) (flashOf (now (slot0 .entry)) (now (slot1 .entry)) (now (scratch .entry))))
+        course) (state (now (slot0 .entry)) (now (slot1 .entry)) (now (scratch .entry)) run) ⌝ }
 {
     match course {
         Course::FromLineThree(lasting) => from_line_three(g, slot0, slot1, scratch, lasting, run),

@@ -34,7 +34,8 @@ listed : (g : Geometry) (f : Flash) (course : Course) → valid (build g) f ≡ 
 unfolding inForce
 listed g f course v d = rw (v, d)
 
-ended-as : (checked : Bool) (g : Geometry) (f : Flash) (t : Bool) → ended checked g f (pick t Stopped Going) ≡ pick t Outcome.Stopped (bootOf checked g f)
+ended-as : (checked : Bool) (g : Geometry) (f : Flash) (t : Bool) → ended checked g f (pick t Stopped Going)
+    ≡ pick t Outcome.Stopped (bootOf checked g f)
 unfolding ended
 ended-as checked g f true = refl
 ended-as checked g f false = refl

@@ -75,7 +75,8 @@ undamaged by-test = refl
 undamaged by-permanent = refl
 undamaged by-revert = refl
 
-pub boots-what-was-checked : {checked : Bool} {g : Geometry} {b : ℕ} {f : Flash} {course : Course} {p : Bool} → Due accepted (build g) f course p
+pub boots-what-was-checked : {checked : Bool} {g : Geometry} {b : ℕ} {f : Flash} {course : Course} {p : Bool} → Due accepted (build g) f
+    course p
     → 3 * (g .sectors - 1) * (g .sector / g .unit + 2) + 8 + 2 * one-if p + 32 / g .unit ≤ b
     → {a : Answer} {end : Flash} → Start checked g b f a end → a .outcome ≡ Outcome.Boot (headerSize (dataOf g (f .in1)))
 unfolding answered ended bootOf

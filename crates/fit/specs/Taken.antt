@@ -36,7 +36,8 @@ in-parts g l0 l1 l2 = simp and-assoc
 pub unit-bounds : (w : ℕ) → unitAsked w ≡ true → (0 < w) × (w ≤ 8)
 unfolding unitAsked
 unit-bounds =
-    each-unit (λ w. (0 < w) × (w ≤ 8)) (omega arith, omega arith) (omega arith, omega arith) (omega arith, omega arith) (omega arith, omega arith)
+    each-unit (λ w. (0 < w) × (w ≤ 8)) (omega arith, omega arith) (omega arith, omega arith) (omega arith, omega arith)
+    (omega arith, omega arith)
 
 unit-whole : (w : ℕ) → unitAsked w ≡ true → 512 / w * w ≡ 512
 unfolding unitAsked

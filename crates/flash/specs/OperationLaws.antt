@@ -54,7 +54,8 @@ attempt-left erased ys l = go (l .run .end) (eqb (l .run .left) 0) erased
 step-left : (g : Build) (op : Op) (s : State) → step g op s .run .left ≤ s .run .left
 unfolding step eraseIn writeIn
 step-left g (erase a i) s = attempt-left true (put (area a (s .flash)) (startOf (geometry g) i .0) (blank (g .sector))) (in-area a s)
-step-left g (write a u bs) s = attempt-left (erased (geometry g) u (area a (s .flash))) (put (area a (s .flash)) (placeOf (geometry g) u .0) bs) (in-area a s)
+step-left g (write a u bs) s = attempt-left (erased (geometry g) u (area a (s .flash)))
+    (put (area a (s .flash)) (placeOf (geometry g) u .0) bs) (in-area a s)
 step-left g (copy c v a u) s =
     attempt-left (erased (geometry g) u (area a (s .flash))) (put (area a (s .flash)) (placeOf (geometry g) u .0) (unitOf g c v
     (s .flash))) (in-area a s)

@@ -22,7 +22,8 @@ fn three_marks(g: Geometry, slot0: &mut [u8], run: Run) -> Run
 // Lines 1 and 2 of the trailer exchange.
 pub fn lines_one_two(g: Geometry, scratch: &mut [u8], lasting: bool, run: Run) -> Run
     requires { ⌜ Small g ⌝ }
-    ensures { λ r. ⌜ local (now (scratch .exit)) r ≡ linesOneTwoIn g (trailerSector (build g) Area.scratch) lasting (local (now (scratch .entry)) run) ⌝ }
+    ensures { λ r. ⌜ local (now (scratch .exit)) r ≡ linesOneTwoIn g (trailerSector (build g) Area.scratch) lasting
+        (local (now (scratch .entry)) run) ⌝ }
 {
     let erased = operations::erase(g, scratch, Sector(1), run);
     let ok = writes::write_ok(g, scratch, Sector(1), lasting, erased);
@@ -32,7 +33,8 @@ pub fn lines_one_two(g: Geometry, scratch: &mut [u8], lasting: bool, run: Run) -
 // Line 5.
 pub fn line_five(g: Geometry, slot0: &mut [u8], lasting: bool, run: Run) -> Run
     requires { ⌜ Small g ⌝ }
-    ensures { λ r. ⌜ local (now (slot0 .exit)) r ≡ lineFiveIn g (trailerSector (build g) Area.slot0) lasting (local (now (slot0 .entry)) run) ⌝ }
+    ensures { λ r. ⌜ local (now (slot0 .exit)) r ≡ lineFiveIn g (trailerSector (build g) Area.slot0) lasting
+        (local (now (slot0 .entry)) run) ⌝ }
 {
     let last = g.sectors - 1;
     let ok = writes::write_ok(g, slot0, Sector(last), lasting, run);
@@ -43,7 +45,8 @@ pub fn line_five(g: Geometry, slot0: &mut [u8], lasting: bool, run: Run) -> Run
 // Marking: image ok, if it is for good, and magic.
 pub fn ok_and_magic(g: Geometry, slot1: &mut [u8], lasting: bool, run: Run) -> Run
     requires { ⌜ Small g ⌝ }
-    ensures { λ r. ⌜ local (now (slot1 .exit)) r ≡ magicIn g (trailerSector (build g) Area.slot1) (okIn g (trailerSector (build g) Area.slot1) lasting (local (now (slot1 .entry)) run)) ⌝ }
+    ensures { λ r. ⌜ local (now (slot1 .exit)) r ≡ magicIn g (trailerSector (build g) Area.slot1)
+        (okIn g (trailerSector (build g) Area.slot1) lasting (local (now (slot1 .entry)) run)) ⌝ }
 {
     let last = g.sectors - 1;
     let ok = writes::write_ok(g, slot1, Sector(last), lasting, run);

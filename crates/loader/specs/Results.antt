@@ -24,13 +24,15 @@ result a f = record { answer = a; flash = f }
 -- ---- laws for the code
 
 -- whether slot 0 is booted rests on slot 0 alone
-ended-slot0 : (checked : Bool) (g : Geometry) (x0 x1 x2 : List ℕ) (e : End) → ended checked g (flashOf x0 [] []) e ≡ ended checked g (flashOf x0 x1 x2) e
+ended-slot0 : (checked : Bool) (g : Geometry) (x0 x1 x2 : List ℕ) (e : End) → ended checked g (flashOf x0 [] []) e
+    ≡ ended checked g (flashOf x0 x1 x2) e
 unfolding ended bootOf
 ended-slot0 checked g x0 x1 x2 End.Going = refl
 ended-slot0 checked g x0 x1 x2 End.Stopped = refl
 ended-slot0 checked g x0 x1 x2 End.Unerased = refl
 
-pub took : (checked : Bool) (g : Geometry) (b : ℕ) (course : Course) (x0 x1 x2 : List ℕ) (r : Run) (done : Done) (found : ℕ) (outcome : Outcome)
+pub took : (checked : Bool) (g : Geometry) (b : ℕ) (course : Course) (x0 x1 x2 : List ℕ) (r : Run) (done : Done) (found : ℕ)
+    (outcome : Outcome)
     → done ≡ doneOf course → found ≡ foundOf course → outcome ≡ ended checked g (flashOf x0 [] []) (r .end)
     → result (record { done = done; found = found; count = b - r .left; outcome = outcome }) (flashOf x0 x1 x2)
     ≡ answered checked g b course (state x0 x1 x2 r)

@@ -18,7 +18,8 @@ pub fn full_start(
     allowance: u64,
     checked: bool,
 ) -> Answer
-    ensures { λ r. ⌜ result r (flashOf (now (slot0 .exit)) (now (slot1 .exit)) (now (scratch .exit))) ≡ fullStart checked g allowance (flashOf (now (slot0 .entry)) (now (slot1 .entry)) (now (scratch .entry))) ⌝ }
+    ensures { λ r. ⌜ result r (flashOf (now (slot0 .exit)) (now (slot1 .exit)) (now (scratch .exit)))
+        ≡ fullStart checked g allowance (flashOf (now (slot0 .entry)) (now (slot1 .entry)) (now (scratch .entry))) ⌝ }
 {
     if fit::taken(g, slot0.len(), slot1.len(), scratch.len()) {
         starts::start_taken(g, slot0, slot1, scratch, allowance, checked)
@@ -35,7 +36,8 @@ pub fn power_up(
     scratch: &mut [u8],
     allowance: u64,
 ) -> Answer
-    ensures { λ r. ⌜ result r (flashOf (now (slot0 .exit)) (now (slot1 .exit)) (now (scratch .exit))) ≡ powerUp g allowance (flashOf (now (slot0 .entry)) (now (slot1 .entry)) (now (scratch .entry))) ⌝ }
+    ensures { λ r. ⌜ result r (flashOf (now (slot0 .exit)) (now (slot1 .exit)) (now (scratch .exit)))
+        ≡ powerUp g allowance (flashOf (now (slot0 .entry)) (now (slot1 .entry)) (now (scratch .entry))) ⌝ }
 {
     full_start(g, slot0, slot1, scratch, allowance, false)
 }

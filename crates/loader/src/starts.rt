@@ -54,7 +54,8 @@ fn slot_accepted(g: Geometry, slot: &[u8]) -> bool
 // A, B and C, and the image check where C asks for it.
 fn decided(g: Geometry, slot0: &[u8], slot1: &[u8], scratch: &[u8]) -> Course
     requires { ⌜ Small g ⌝ }
-    ensures { λ r. ⌜ (r ≡ decide accepted (build g) (flashOf (now (slot0 .entry)) (now (slot1 .entry)) (now (scratch .entry)))) × (inBounds (build g) r ≡ true) ⌝ }
+    ensures { λ r. ⌜ (r ≡ decide accepted (build g) (flashOf (now (slot0 .entry)) (now (slot1 .entry)) (now (scratch .entry)))) ×
+        (inBounds (build g) r ≡ true) ⌝ }
 {
     let asked = decision::asks(g, slot0, slot1, scratch);
     if course::wants_check(asked) {
@@ -117,7 +118,9 @@ fn take_course(
 ) -> Answer
     requires { ⌜ Small g ⌝ }
     requires { ⌜ inBounds (build g) course ≡ true ⌝ }
-    ensures { λ r. ⌜ result r (flashOf (now (slot0 .exit)) (now (slot1 .exit)) (now (scratch .exit))) ≡ answered checked g allowance course (carried g allowance (flashOf (now (slot0 .entry)) (now (slot1 .entry)) (now (scratch .entry))) course) ⌝ }
+    ensures { λ r. ⌜ result r (flashOf (now (slot0 .exit)) (now (slot1 .exit)) (now (scratch .exit)))
+        ≡ answered checked g allowance course (carried g allowance
+        (flashOf (now (slot0 .entry)) (now (slot1 .entry)) (now (scratch .entry))) course) ⌝ }
 {
     let all = Run {
         left: allowance,
@@ -158,7 +161,9 @@ pub fn start_taken(
     checked: bool,
 ) -> Answer
     requires { ⌜ Small g ⌝ }
-    ensures { λ r. ⌜ result r (flashOf (now (slot0 .exit)) (now (slot1 .exit)) (now (scratch .exit))) ≡ onCourse checked g allowance (flashOf (now (slot0 .entry)) (now (slot1 .entry)) (now (scratch .entry))) (decide accepted (build g) (flashOf (now (slot0 .entry)) (now (slot1 .entry)) (now (scratch .entry)))) ⌝ }
+    ensures { λ r. ⌜ result r (flashOf (now (slot0 .exit)) (now (slot1 .exit)) (now (scratch .exit)))
+        ≡ onCourse checked g allowance (flashOf (now (slot0 .entry)) (now (slot1 .entry)) (now (scratch .entry)))
+        (decide accepted (build g) (flashOf (now (slot0 .entry)) (now (slot1 .entry)) (now (scratch .entry)))) ⌝ }
 {
     let course = decided(g, slot0, slot1, scratch);
     if is_damage(course) {

@@ -9,7 +9,8 @@ use Rattle.marking.specs.Marking.{MarkResult, refusedMark}
 abbrev pub markResult : Marked → Flash → MarkResult
 markResult a f = record { answer = a; flash = f }
 
-pub refusing-mark : (a : Marked) (r : Refusal) (f : Flash) → (a .ending ≡ Ending.Refused r) × (a .count ≡ 0) → markResult a f ≡ refusedMark r f
+pub refusing-mark : (a : Marked) (r : Refusal) (f : Flash) → (a .ending ≡ Ending.Refused r) × (a .count ≡ 0) → markResult a f
+    ≡ refusedMark r f
 unfolding refusedMark
 refusing-mark a r f e =
     let same : markResult a f ≡ markResult (record { ending = a .ending; count = a .count }) f = refl in

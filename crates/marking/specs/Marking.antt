@@ -70,7 +70,8 @@ marking permanent g f = unlessRefused g f (markUnlessMarked permanent g f)
 unfoldable pub confirmable : Geometry → Flash → Bool
 confirmable g f =
     let t0 = trailer (build g) slot0 f in
-    isGood (magicOf (build g) t0) && (hasValue 1 (markOf (build g) t0 (copyDoneAt (build g))) && isUnset (markOf (build g) t0 (okAt (build g))))
+    isGood (magicOf (build g) t0) && (hasValue 1 (markOf (build g) t0 (copyDoneAt (build g))) && isUnset
+    (markOf (build g) t0 (okAt (build g))))
 
 -- "Confirming writes slot 0 image ok 01"
 unfoldable pub confirmIfNeeded : Geometry → Flash → MarkResult

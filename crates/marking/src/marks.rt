@@ -109,7 +109,8 @@ fn mark_writes(g: Geometry, permanent: bool) -> u64
 // Marking where no exchange is under way. Slot 0 and scratch, x0 and x2, have no part in it.
 fn mark_free(g: Geometry, slot1: &mut [u8], permanent: bool) -> Marked
     requires { ⌜ Small g ⌝ }
-    ensures { λ r. ⌜ ((x0 x2 : List ℕ) → markResult r (flashOf x0 (now (slot1 .exit)) x2) ≡ markUnlessMarked permanent g (flashOf x0 (now (slot1 .entry)) x2)) ⌝ }
+    ensures { λ r. ⌜ ((x0 x2 : List ℕ) → markResult r (flashOf x0 (now (slot1 .exit)) x2)
+        ≡ markUnlessMarked permanent g (flashOf x0 (now (slot1 .entry)) x2)) ⌝ }
 {
     if is_unmarked(g, slot1) {
         let all = mark_writes(g, permanent);
@@ -132,7 +133,10 @@ pub fn mark_taken(
     permanent: bool,
 ) -> Marked
     requires { ⌜ Small g ⌝ }
-    ensures { λ r. ⌜ markResult r (flashOf (now (slot0 .entry)) (now (slot1 .exit)) (now (scratch .entry))) ≡ unlessUnderWay (askedBy g (flashOf (now (slot0 .entry)) (now (slot1 .entry)) (now (scratch .entry)))) (flashOf (now (slot0 .entry)) (now (slot1 .entry)) (now (scratch .entry))) (markUnlessMarked permanent g (flashOf (now (slot0 .entry)) (now (slot1 .entry)) (now (scratch .entry)))) ⌝ }
+    ensures { λ r. ⌜ markResult r (flashOf (now (slot0 .entry)) (now (slot1 .exit)) (now (scratch .entry)))
+        ≡ unlessUnderWay (askedBy g (flashOf (now (slot0 .entry)) (now (slot1 .entry)) (now (scratch .entry))))
+        (flashOf (now (slot0 .entry)) (now (slot1 .entry)) (now (scratch .entry)))
+        (markUnlessMarked permanent g (flashOf (now (slot0 .entry)) (now (slot1 .entry)) (now (scratch .entry)))) ⌝ }
 {
     let course = decision::asks(g, slot0, slot1, scratch);
     match standing_of(course) {
@@ -144,7 +148,8 @@ pub fn mark_taken(
 // Confirming where no exchange is under way.
 fn confirm_free(g: Geometry, slot0: &mut [u8]) -> Marked
     requires { ⌜ Small g ⌝ }
-    ensures { λ r. ⌜ ((x1 x2 : List ℕ) → markResult r (flashOf (now (slot0 .exit)) x1 x2) ≡ confirmIfNeeded g (flashOf (now (slot0 .entry)) x1 x2)) ⌝ }
+    ensures { λ r. ⌜ ((x1 x2 : List ℕ) → markResult r (flashOf (now (slot0 .exit)) x1 x2)
+        ≡ confirmIfNeeded g (flashOf (now (slot0 .entry)) x1 x2)) ⌝ }
 {
     if is_confirmable(g, slot0) {
         let start = Run {
@@ -160,7 +165,10 @@ fn confirm_free(g: Geometry, slot0: &mut [u8]) -> Marked
 
 pub fn confirm_taken(g: Geometry, slot0: &mut [u8], slot1: &[u8], scratch: &[u8]) -> Marked
     requires { ⌜ Small g ⌝ }
-    ensures { λ r. ⌜ markResult r (flashOf (now (slot0 .exit)) (now (slot1 .entry)) (now (scratch .entry))) ≡ unlessUnderWay (askedBy g (flashOf (now (slot0 .entry)) (now (slot1 .entry)) (now (scratch .entry)))) (flashOf (now (slot0 .entry)) (now (slot1 .entry)) (now (scratch .entry))) (confirmIfNeeded g (flashOf (now (slot0 .entry)) (now (slot1 .entry)) (now (scratch .entry)))) ⌝ }
+    ensures { λ r. ⌜ markResult r (flashOf (now (slot0 .exit)) (now (slot1 .entry)) (now (scratch .entry)))
+        ≡ unlessUnderWay (askedBy g (flashOf (now (slot0 .entry)) (now (slot1 .entry)) (now (scratch .entry))))
+        (flashOf (now (slot0 .entry)) (now (slot1 .entry)) (now (scratch .entry)))
+        (confirmIfNeeded g (flashOf (now (slot0 .entry)) (now (slot1 .entry)) (now (scratch .entry)))) ⌝ }
 {
     let course = decision::asks(g, slot0, slot1, scratch);
     match standing_of(course) {

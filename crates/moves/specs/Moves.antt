@@ -29,7 +29,8 @@ by-number (suc i) (suc (suc (suc t))) h =
     by-number i t (omega arith) ∙ ap₂ (λ (j k : ℕ). moveOf j k ∷ drop (suc t) (allMoves i)) e r
 
 -- the move whose mark has number k, and those after it
-pub next-move : (n k : ℕ) → 3 ≤ k → k < 3 * n → drop (k - 3) (allMoves (n - 1)) ≡ moveOf (n - 1 - k / 3) (k % 3) ∷ drop (k + 1 - 3) (allMoves (n - 1))
+pub next-move : (n k : ℕ) → 3 ≤ k → k < 3 * n → drop (k - 3) (allMoves (n - 1))
+    ≡ moveOf (n - 1 - k / 3) (k % 3) ∷ drop (k + 1 - 3) (allMoves (n - 1))
 next-move n k lo hi =
     let t : ℕ = k - 3 in
     let three : k ≡ t + 3 = omega arith in

@@ -38,7 +38,9 @@ fn one_move(
 ) -> Run
     requires { ⌜ Small g ⌝ }
     requires { ⌜ k < 3 * g .sectors ⌝ }
-    ensures { λ r. ⌜ state (now (slot0 .exit)) (now (slot1 .exit)) (now (scratch .exit)) r ≡ steps (build g) (moveOps (build g) (moveOf (g .sectors - 1 - k / 3) (k % 3))) (state (now (slot0 .entry)) (now (slot1 .entry)) (now (scratch .entry)) run) ⌝ }
+    ensures { λ r. ⌜ state (now (slot0 .exit)) (now (slot1 .exit)) (now (scratch .exit)) r
+        ≡ steps (build g) (moveOps (build g) (moveOf (g .sectors - 1 - k / 3) (k % 3)))
+        (state (now (slot0 .entry)) (now (slot1 .entry)) (now (scratch .entry)) run) ⌝ }
 {
     let i = g.sectors - 1 - k / 3;
     let j = k % 3;
@@ -61,7 +63,9 @@ fn marked_move(
 ) -> Run
     requires { ⌜ Small g ⌝ }
     requires { ⌜ k < 3 * g .sectors ⌝ }
-    ensures { λ r. ⌜ state (now (slot0 .exit)) (now (slot1 .exit)) (now (scratch .exit)) r ≡ step (build g) (progress (build g) k) (steps (build g) (moveOps (build g) (moveOf (g .sectors - 1 - k / 3) (k % 3))) (state (now (slot0 .entry)) (now (slot1 .entry)) (now (scratch .entry)) run)) ⌝ }
+    ensures { λ r. ⌜ state (now (slot0 .exit)) (now (slot1 .exit)) (now (scratch .exit)) r
+        ≡ step (build g) (progress (build g) k) (steps (build g) (moveOps (build g) (moveOf (g .sectors - 1 - k / 3) (k % 3)))
+        (state (now (slot0 .entry)) (now (slot1 .entry)) (now (scratch .entry)) run)) ⌝ }
 {
     let moved = one_move(g, k, slot0, slot1, scratch, run);
     writes::write_progress(g, slot0, k, moved)
@@ -78,7 +82,10 @@ fn moves_from(
 ) -> Run
     requires { ⌜ Small g ⌝ }
     requires { ⌜ (3 ≤ c) × (c ≤ 3 * g .sectors) ⌝ }
-    ensures { λ r. ⌜ step (build g) (mark (build g) Area.slot0 (copyDoneAt (build g)) 1) (state (now (slot0 .exit)) (now (slot1 .exit)) (now (scratch .exit)) r) ≡ steps (build g) (dataOps (build g) c (drop (c - 3) (allMoves (g .sectors - 1)))) (state (now (slot0 .entry)) (now (slot1 .entry)) (now (scratch .entry)) run) ⌝ }
+    ensures { λ r. ⌜ step (build g) (mark (build g) Area.slot0 (copyDoneAt (build g)) 1)
+        (state (now (slot0 .exit)) (now (slot1 .exit)) (now (scratch .exit)) r)
+        ≡ steps (build g) (dataOps (build g) c (drop (c - 3) (allMoves (g .sectors - 1))))
+        (state (now (slot0 .entry)) (now (slot1 .entry)) (now (scratch .entry)) run) ⌝ }
 {
     let mut r = run;
     let mut k = c;
@@ -100,7 +107,9 @@ pub fn data_exchange(
 ) -> Run
     requires { ⌜ Small g ⌝ }
     requires { ⌜ (3 ≤ c) × (c ≤ 3 * g .sectors) ⌝ }
-    ensures { λ r. ⌜ state (now (slot0 .exit)) (now (slot1 .exit)) (now (scratch .exit)) r ≡ steps (build g) (dataOps (build g) c (drop (c - 3) (allMoves (g .sectors - 1)))) (state (now (slot0 .entry)) (now (slot1 .entry)) (now (scratch .entry)) run) ⌝ }
+    ensures { λ r. ⌜ state (now (slot0 .exit)) (now (slot1 .exit)) (now (scratch .exit)) r
+        ≡ steps (build g) (dataOps (build g) c (drop (c - 3) (allMoves (g .sectors - 1))))
+        (state (now (slot0 .entry)) (now (slot1 .entry)) (now (scratch .entry)) run) ⌝ }
 {
     let moved = moves_from(g, c, slot0, slot1, scratch, run);
     let at = copy_done::done_place(g);

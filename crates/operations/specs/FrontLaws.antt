@@ -15,7 +15,8 @@ use Rattle.flash.specs.Geometry.{unitNo, placeOf}
 use Rattle.operations.specs.UnitLaws.{blankRun}
 
 module _ (g : Geometry) (small : Small g) (to : Unit) (reached : ℕ) (src : List ℕ) (from : ℕ) (xs : List ℕ) (blocks : ℕ)
-    (counted : blocks ≡ blanks 512 (placeOf g to .0) (min (min (reached * g .unit) (length src - from)) (length xs - placeOf g to .0) / 512) xs) where
+    (counted : blocks ≡ blanks 512 (placeOf g to .0) (min (min (reached * g .unit) (length src - from)) (length xs - placeOf g to .0) /
+    512) xs) where
   abbrev front : ℕ
   front = min (min (reached * g .unit) (length src - from)) (length xs - placeOf g to .0)
 

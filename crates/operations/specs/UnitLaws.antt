@@ -30,14 +30,16 @@ pub halted-writes : (g : Geometry) (k : ℕ) (u : Unit) (bs xs : List ℕ) (b : 
     → writeAllIn g u k bs (local xs (record { left = b; end = e })) ≡ local xs (record { left = b; end = e })
 unfolding Halted writeAllIn writeIn attempt
 halted-writes g zero u bs xs b e h = refl
-halted-writes g (suc k) u bs xs b e h = rw (h (local xs (record { left = b; end = e }))) (halted-writes g k (nextUnit u) (drop (g .unit) bs) xs b e h)
+halted-writes g (suc k) u bs xs b e h = rw (h (local xs (record { left = b; end = e })))
+    (halted-writes g k (nextUnit u) (drop (g .unit) bs) xs b e h)
 
 -- ---- the units that are erased, of n from u on, up to the first that is not
 
 unfoldable pub blankRun : Geometry → Unit → ℕ → List ℕ → ℕ
 blankRun g u n xs = blanks (g .unit) (u .0 * g .unit) n xs
 
-run-yes : (g : Geometry) (n : ℕ) (u : Unit) (xs : List ℕ) → erased g u xs ≡ true → blankRun g u (suc n) xs ≡ suc (blankRun g (nextUnit u) n xs)
+run-yes : (g : Geometry) (n : ℕ) (u : Unit) (xs : List ℕ) → erased g u xs ≡ true → blankRun g u (suc n) xs
+    ≡ suc (blankRun g (nextUnit u) n xs)
 unfolding blankRun erased
 run-yes g n u xs e =
     let at : u .0 * g .unit + g .unit ≡ (u .0 + 1) * g .unit = omega arith in
@@ -54,7 +56,8 @@ unfolding blankRun
 blank-run-after g n u xs at ys h = blanks-after (g .unit) (u .0 * g .unit) n xs at ys h
 
 -- all of them
-pub blank-run-all : (g : Geometry) (n : ℕ) (u : Unit) (xs : List ℕ) → part xs (u .0 * g .unit) (n * g .unit) ≡ blank (n * g .unit) → blankRun g u n xs ≡ n
+pub blank-run-all : (g : Geometry) (n : ℕ) (u : Unit) (xs : List ℕ) → part xs (u .0 * g .unit) (n * g .unit)
+    ≡ blank (n * g .unit) → blankRun g u n xs ≡ n
 unfolding blankRun blanks
 blank-run-all g n u xs h =
     let z : n ≡ n + 0 = omega arith in
@@ -86,7 +89,8 @@ wrote-none g u k bs xs b n =
     (ap (λ (i : ℕ). put xs (placeOf g u .0) (take i bs)) z ∙ put-nil xs (placeOf g u .0)) l
 
 -- one unit: nothing left of the allowance, the unit not erased, and done
-write-late : (g : Geometry) (u : Unit) (ys xs : List ℕ) → writeIn g u ys (local xs (going 0)) ≡ local xs (record { left = 0; end = Stopped })
+write-late : (g : Geometry) (u : Unit) (ys xs : List ℕ) → writeIn g u ys (local xs (going 0))
+    ≡ local xs (record { left = 0; end = Stopped })
 unfolding writeIn attempt
 write-late g u ys xs = refl
 
@@ -129,7 +133,8 @@ writes-at-once g (suc k) u bs xs zero =
     ∙ halted-writes g k (nextUnit u) (drop (g .unit) bs) xs 0 Stopped stopped-halts
     ∙ sym (ap (λ (n : ℕ). wrote g u (suc k) bs xs 0 n (blankRun g u n xs)) n ∙ wrote-none g u (suc k) bs xs 0 0
     ∙ ap (λ (t : Bool). local xs (record { left = 0; end = pick t Stopped Going })) (ltb-zero-suc k))
-writes-at-once g (suc k) u bs xs (suc b) = go (erased g u xs) refl (writes-at-once g k (nextUnit u) (drop (g .unit) bs) (put xs (placeOf g u .0) (take (g .unit) bs)) b)
+writes-at-once g (suc k) u bs xs (suc b) = go (erased g u xs) refl
+    (writes-at-once g k (nextUnit u) (drop (g .unit) bs) (put xs (placeOf g u .0) (take (g .unit) bs)) b)
   where
     w : ℕ
     w = g .unit
@@ -204,7 +209,8 @@ blank-run-stop g u n k xs h e =
     ∙ ap (λ (m : ℕ). k + m) (run-no g (n - (k + 1)) (unitNo (u .0 + k)) xs e) ∙ omega arith
 
 -- what the code has after its one copy is what the units come to
-pub copied : (g : Geometry) (units : ℕ) (to : Unit) (src : List ℕ) (from : ℕ) (xs : List ℕ) (left reached written : ℕ) (ys : List ℕ) (r : Run)
+pub copied : (g : Geometry) (units : ℕ) (to : Unit) (src : List ℕ) (from : ℕ) (xs : List ℕ) (left reached written : ℕ) (ys : List ℕ)
+    (r : Run)
     → reached ≡ min left units → written ≡ blankRun g to reached xs → ys ≡ put xs (placeOf g to .0) (part src from (written * g .unit))
     → r .left ≡ left - written → r .end ≡ pick (ltb written reached) Unerased (pick (ltb left units) Stopped Going)
     → local ys r ≡ writeAllIn g to units (part src from (units * g .unit)) (local xs (going left))

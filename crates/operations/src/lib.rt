@@ -105,7 +105,8 @@ fn reach(left: u64, units: usize) -> usize
 // Of the units that the allowance reaches, some were written: what is left, and how it stands.
 fn settled(left: u64, units: usize, reached: usize, written: usize) -> Run
     requires { ⌜ written ≤ left ⌝ }
-    ensures { λ r. ⌜ (r .left ≡ left - written) × (r .end ≡ pick (ltb written reached) End.Unerased (pick (ltb left units) End.Stopped End.Going)) ⌝ }
+    ensures { λ r. ⌜ (r .left ≡ left - written) × (r .end ≡ pick (ltb written reached) End.Unerased
+        (pick (ltb left units) End.Stopped End.Going)) ⌝ }
 {
     let rest = left - written as u64;
     if written < reached {
@@ -137,8 +138,10 @@ fn write_blocks(
 ) -> usize
     requires { ⌜ Small g ⌝ }
     requires { ⌜ to .0 + reached ≤ 8388608 ⌝ }
-    ensures { λ r. ⌜ r ≡ blanks 512 (placeOf g to .0) (min (min (reached * g .unit) (length (now (src .entry)) - from .0)) (length (now (dst .entry)) - placeOf g to .0) / 512) (now (dst .entry)) ⌝ }
-    ensures { λ r. ⌜ (r * 512 ≤ length (now (src .entry)) - from .0) × (r * (512 / g .unit) ≤ reached) × (placeOf g to .0 + r * 512 ≤ 67108864) ⌝ }
+    ensures { λ r. ⌜ r ≡ blanks 512 (placeOf g to .0) (min (min (reached * g .unit) (length (now (src .entry)) - from .0))
+        (length (now (dst .entry)) - placeOf g to .0) / 512) (now (dst .entry)) ⌝ }
+    ensures { λ r. ⌜ (r * 512 ≤ length (now (src .entry)) - from .0) × (r * (512 / g .unit) ≤ reached) ×
+        (placeOf g to .0 + r * 512 ≤ 67108864) ⌝ }
     ensures { λ r. ⌜ now (dst .exit) ≡ put (now (dst .entry)) (placeOf g to .0) (part (now (src .entry)) (from .0) (r * 512)) ⌝ }
 {
     let at = flash::place_of(g, to);
@@ -183,7 +186,8 @@ fn copy_units(
 ) -> Run
     requires { ⌜ Small g ⌝ }
     requires { ⌜ to .0 + units ≤ 8388608 ⌝ }
-    ensures { λ r. ⌜ local (now (dst .exit)) r ≡ writeAllIn g to units (part (now (src .entry)) (from .0) (units * g .unit)) (local (now (dst .entry)) (going left)) ⌝ }
+    ensures { λ r. ⌜ local (now (dst .exit)) r ≡ writeAllIn g to units (part (now (src .entry)) (from .0) (units * g .unit))
+        (local (now (dst .entry)) (going left)) ⌝ }
 {
     let reached = reach(left, units);
     let written = write_erased(g, src, from, dst, to, reached);
@@ -202,7 +206,8 @@ pub fn write_units(
 ) -> Run
     requires { ⌜ Small g ⌝ }
     requires { ⌜ to .0 + units ≤ 8388608 ⌝ }
-    ensures { λ r. ⌜ local (now (dst .exit)) r ≡ writeAllIn g to units (part (now (src .entry)) (from .0) (units * g .unit)) (local (now (dst .entry)) run) ⌝ }
+    ensures { λ r. ⌜ local (now (dst .exit)) r ≡ writeAllIn g to units (part (now (src .entry)) (from .0) (units * g .unit))
+        (local (now (dst .entry)) run) ⌝ }
 {
     let end = run.end;
     match end {

@@ -64,7 +64,16 @@ module _ {g : Build} (plan : Flash → List Op) (Inv Holds : Flash → Type 0)
       go : ((f f' : Flash) → Good (d ∷ cs) (runAll g (c .ops) clean) → d .Like f (runAll g (c .ops) clean) → Inv f'
           → runAll g (allOps (d ∷ cs)) (runAll g (c .ops) clean) ≡ end → Cut g (allOps (d ∷ cs)) f f' → Stage end f')
           → Cut g (c .ops) f f' ⊎ Cut g (allOps (d ∷ cs)) (runAll g (c .ops) f) f' → Stage end f'
-      go ih (inl k) = record { chunk = c; rest = d ∷ cs; clean = clean; good = good; like = c .stays f clean f' like k; inv = inv; ends = e }
+      go ih (inl k) = record {
+        chunk = c;
+        rest = d ∷ cs;
+        clean = clean;
+        good = good;
+        like = c .stays f clean f' like k;
+        inv = inv;
+        ends =
+            e;
+      }
       go ih (inr k) = ih (runAll g (c .ops) clean) f' (later-on good) (begins (later-on good)) inv
           (sym (runAll-append g (c .ops) (allOps (d ∷ cs)) clean) ∙ e)
           (subst (λ (x : Flash). Cut g (allOps (d ∷ cs)) x f') (c .works f clean like) k)

@@ -74,7 +74,9 @@ edges =
     ∷ row (course ran (slot [] [] magicBytes)) Test ∷ []
 
 pub edges-hold : Holds edges
-unfolding edges taken inSlot littleEndian course ran accepts flash slot small base fits asked every decide judged asks stepA stepB continue stateC written legal hasValue isUnset noMagic isGood markOf magicOf trailer markStands magicBytes writes magicOps okOps linesOneTwo linesThreeToSix copies moveOps dataOps exchange threeMoves allMoves put part blank same
+unfolding edges taken inSlot littleEndian course ran accepts flash slot small base fits asked every decide judged asks stepA stepB continue
+    stateC written legal hasValue isUnset noMagic isGood markOf magicOf trailer markStands magicBytes writes magicOps okOps linesOneTwo
+    linesThreeToSix copies moveOps dataOps exchange threeMoves allMoves put part blank same
 edges-hold =
     and refl (and refl (and refl (and refl (and refl (and refl (and refl (and refl (and refl (and refl (and refl
     (and refl (and refl (and refl (and refl (and refl (and refl (and refl (and refl (and refl (and refl (and refl

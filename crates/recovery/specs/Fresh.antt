@@ -201,7 +201,8 @@ module _ {g : Build} (geo : Geo g) where
     fresh-rest p f z =
         let u : Under g 3 (runAll g (linesThreeToSix g p) f) = settled geo p f (z slot0) (z scratch) in
         fresh-append (linesThreeToSix g p) (dataOps g 3 (g .moves)) (fresh-settle p f (z slot0))
-        (fresh-data (g .moves) 3 (runAll g (linesThreeToSix g p) f) (sound .proper) (sound .places) (λ a. sized-run g a (linesThreeToSix g p) f (z a))
+        (fresh-data (g .moves) 3 (runAll g (linesThreeToSix g p) f) (sound .proper) (sound .places)
+        (λ a. sized-run g a (linesThreeToSix g p) f (z a))
         (u .marked .free))
 
     pub fresh-exchange : (p : Bool) (f : Flash) → ((a : Area) → Sized g a f) → Fresh g (exchange g p) f

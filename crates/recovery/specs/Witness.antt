@@ -31,15 +31,18 @@ pub on-trial : Flash
 on-trial = flash ran (blank 1024)
 
 pub test-due : Due accepts small for-test Test false
-unfolding for-test ran accepts flash slot small base fits asked every valid decide judged asks stepA stepB continue stateC written legal hasValue isUnset noMagic isGood markOf magicOf trailer magicBytes put part blank same
+unfolding for-test ran accepts flash slot small base fits asked every valid decide judged asks stepA stepB continue stateC written legal
+    hasValue isUnset noMagic isGood markOf magicOf trailer magicBytes put part blank same
 test-due = record { fits = refl; which = by-test; decided = refl }
 
 pub permanent-due : Due accepts small for-good Permanent true
-unfolding for-good ran accepts flash slot small base fits asked every valid decide judged asks stepA stepB continue stateC written legal hasValue isUnset noMagic isGood markOf magicOf trailer magicBytes put part blank same
+unfolding for-good ran accepts flash slot small base fits asked every valid decide judged asks stepA stepB continue stateC written legal
+    hasValue isUnset noMagic isGood markOf magicOf trailer magicBytes put part blank same
 permanent-due = record { fits = refl; which = by-permanent; decided = refl }
 
 pub revert-due : Due accepts small on-trial Revert true
-unfolding on-trial ran accepts flash slot small base fits asked every valid decide judged asks stepA stepB continue stateC written legal hasValue isUnset noMagic isGood markOf magicOf trailer magicBytes put part blank same
+unfolding on-trial ran accepts flash slot small base fits asked every valid decide judged asks stepA stepB continue stateC written legal
+    hasValue isUnset noMagic isGood markOf magicOf trailer magicBytes put part blank same
 revert-due = record { fits = refl; which = by-revert; decided = refl }
 
 -- the test exchange is cut inside its first erase of data, and leaves sevens in scratch's data sector
@@ -50,7 +53,8 @@ pub harmed : Flash
 harmed = store scratch 0 sevens (run small 39 (exchange small false) for-test)
 
 in-force : inForce accepts small for-test ≡ exchange small false
-unfolding for-test ran accepts flash slot small base fits asked every valid inForce listOf decide judged asks stepA stepB continue stateC written legal hasValue isUnset noMagic isGood markOf magicOf trailer magicBytes put part blank same
+unfolding for-test ran accepts flash slot small base fits asked every valid inForce listOf decide judged asks stepA stepB continue stateC
+    written legal hasValue isUnset noMagic isGood markOf magicOf trailer magicBytes put part blank same
 in-force = refl
 
 next-erase : drop 39 (exchange small false) ≡ erase scratch (sectorNo 0) ∷ drop 40 (exchange small false)

@@ -39,8 +39,11 @@ pub extern "C" fn scale_power_up(
     scratch: &mut [u8],
     allowance: u64,
 ) -> Numbers
-    ensures { λ r. ⌜ r ≡ answerNumbers ((powerUp (geometryOf unit sector sectors) allowance (flashOf (now (slot0 .entry)) (now (slot1 .entry)) (now (scratch .entry)))) .answer) ⌝ }
-    ensures { λ _. ⌜ flashOf (now (slot0 .exit)) (now (slot1 .exit)) (now (scratch .exit)) ≡ (powerUp (geometryOf unit sector sectors) allowance (flashOf (now (slot0 .entry)) (now (slot1 .entry)) (now (scratch .entry)))) .flash ⌝ }
+    ensures { λ r. ⌜ r ≡ answerNumbers ((powerUp (geometryOf unit sector sectors) allowance
+        (flashOf (now (slot0 .entry)) (now (slot1 .entry)) (now (scratch .entry)))) .answer) ⌝ }
+    ensures { λ _. ⌜ flashOf (now (slot0 .exit)) (now (slot1 .exit)) (now (scratch .exit))
+        ≡ (powerUp (geometryOf unit sector sectors) allowance
+        (flashOf (now (slot0 .entry)) (now (slot1 .entry)) (now (scratch .entry)))) .flash ⌝ }
 {
     let g = Geometry {
         unit,
@@ -62,8 +65,11 @@ pub extern "C" fn scale_full_start(
     allowance: u64,
     checked: bool,
 ) -> Numbers
-    ensures { λ r. ⌜ r ≡ answerNumbers ((fullStart checked (geometryOf unit sector sectors) allowance (flashOf (now (slot0 .entry)) (now (slot1 .entry)) (now (scratch .entry)))) .answer) ⌝ }
-    ensures { λ _. ⌜ flashOf (now (slot0 .exit)) (now (slot1 .exit)) (now (scratch .exit)) ≡ (fullStart checked (geometryOf unit sector sectors) allowance (flashOf (now (slot0 .entry)) (now (slot1 .entry)) (now (scratch .entry)))) .flash ⌝ }
+    ensures { λ r. ⌜ r ≡ answerNumbers ((fullStart checked (geometryOf unit sector sectors) allowance
+        (flashOf (now (slot0 .entry)) (now (slot1 .entry)) (now (scratch .entry)))) .answer) ⌝ }
+    ensures { λ _. ⌜ flashOf (now (slot0 .exit)) (now (slot1 .exit)) (now (scratch .exit))
+        ≡ (fullStart checked (geometryOf unit sector sectors) allowance
+        (flashOf (now (slot0 .entry)) (now (slot1 .entry)) (now (scratch .entry)))) .flash ⌝ }
 {
     let g = Geometry {
         unit,
@@ -84,8 +90,11 @@ pub extern "C" fn scale_mark(
     scratch: &[u8],
     permanent: bool,
 ) -> MarkNumbers
-    ensures { λ r. ⌜ r ≡ markedNumbers ((marking permanent (geometryOf unit sector sectors) (flashOf (now (slot0 .entry)) (now (slot1 .entry)) (now (scratch .entry)))) .answer) ⌝ }
-    ensures { λ _. ⌜ flashOf (now (slot0 .entry)) (now (slot1 .exit)) (now (scratch .entry)) ≡ (marking permanent (geometryOf unit sector sectors) (flashOf (now (slot0 .entry)) (now (slot1 .entry)) (now (scratch .entry)))) .flash ⌝ }
+    ensures { λ r. ⌜ r ≡ markedNumbers ((marking permanent (geometryOf unit sector sectors)
+        (flashOf (now (slot0 .entry)) (now (slot1 .entry)) (now (scratch .entry)))) .answer) ⌝ }
+    ensures { λ _. ⌜ flashOf (now (slot0 .entry)) (now (slot1 .exit)) (now (scratch .entry))
+        ≡ (marking permanent (geometryOf unit sector sectors)
+        (flashOf (now (slot0 .entry)) (now (slot1 .entry)) (now (scratch .entry)))) .flash ⌝ }
 {
     let g = Geometry {
         unit,
@@ -105,8 +114,11 @@ pub extern "C" fn scale_confirm(
     slot1: &[u8],
     scratch: &[u8],
 ) -> MarkNumbers
-    ensures { λ r. ⌜ r ≡ markedNumbers ((confirming (geometryOf unit sector sectors) (flashOf (now (slot0 .entry)) (now (slot1 .entry)) (now (scratch .entry)))) .answer) ⌝ }
-    ensures { λ _. ⌜ flashOf (now (slot0 .exit)) (now (slot1 .entry)) (now (scratch .entry)) ≡ (confirming (geometryOf unit sector sectors) (flashOf (now (slot0 .entry)) (now (slot1 .entry)) (now (scratch .entry)))) .flash ⌝ }
+    ensures { λ r. ⌜ r ≡ markedNumbers ((confirming (geometryOf unit sector sectors)
+        (flashOf (now (slot0 .entry)) (now (slot1 .entry)) (now (scratch .entry)))) .answer) ⌝ }
+    ensures { λ _. ⌜ flashOf (now (slot0 .exit)) (now (slot1 .entry)) (now (scratch .entry))
+        ≡ (confirming (geometryOf unit sector sectors) (flashOf (now (slot0 .entry)) (now (slot1 .entry))
+        (now (scratch .entry)))) .flash ⌝ }
 {
     let g = Geometry {
         unit,

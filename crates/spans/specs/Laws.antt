@@ -19,7 +19,8 @@ put-is [] zero [] h = refl
 put-is [] zero (y ∷ ys) h = absurd (omega arith)
 put-is [] (suc at) ys h = absurd (omega arith)
 put-is (x ∷ xs) zero [] h = refl
-put-is (x ∷ xs) zero (y ∷ ys) h = rw (zero-add (suc (length ys))) (ap {B = List ℕ} (λ r. y ∷ r) (put-is xs zero ys (omega arith) ∙ ap (λ (n : ℕ). ys ++ drop n xs) (zero-add (length ys))))
+put-is (x ∷ xs) zero (y ∷ ys) h = rw (zero-add (suc (length ys)))
+    (ap {B = List ℕ} (λ r. y ∷ r) (put-is xs zero ys (omega arith) ∙ ap (λ (n : ℕ). ys ++ drop n xs) (zero-add (length ys))))
 put-is (x ∷ xs) (suc at) ys h = rw suc-add (ap {B = List ℕ} (λ r. x ∷ r) (put-is xs at ys (omega arith)))
 
 -- a store of one byte

@@ -69,7 +69,8 @@ fn copy_blank_blocks(src: &[u8], from: usize, dst: &mut [u8], at: usize, blocks:
 // The size bytes of src from from on go to dst from at on, in blocks of 512 bytes as long as those of dst are blank. Answers how many
 // blocks that were; the bytes behind them are left for another.
 pub fn copy_blank(src: &[u8], from: usize, dst: &mut [u8], at: usize, size: usize) -> usize
-    ensures { λ r. ⌜ r ≡ blanks 512 at (min (min size (length (now (src .entry)) - from)) (length (now (dst .entry)) - at) / 512) (now (dst .entry)) ⌝ }
+    ensures { λ r. ⌜ r ≡ blanks 512 at (min (min size (length (now (src .entry)) - from)) (length (now (dst .entry)) - at) / 512)
+        (now (dst .entry)) ⌝ }
     ensures { λ r. ⌜ now (dst .exit) ≡ put (now (dst .entry)) at (part (now (src .entry)) from (r * 512)) ⌝ }
 {
     let n = spans::least(

@@ -69,7 +69,8 @@ module _ (g : Geometry) (a : Area) where
       steps-append (build g) xs ys s ∙ ap (steps (build g) ys) (p s) ∙ q (back a s l)
       ∙ ap (λ (x : Local). back a (back a s l) (ψ x)) (in-back a s l) ∙ back-back a s l (ψ l)
 
-  steps-clear : (s : State) → steps (build g) (eraseTrailer (build g) a ∷ []) s ≡ back a s (eraseIn g (trailerSector (build g) a) (in-area a s))
+  steps-clear : (s : State) → steps (build g) (eraseTrailer (build g) a ∷ []) s
+      ≡ back a s (eraseIn g (trailerSector (build g) a) (in-area a s))
   unfolding steps step base
   steps-clear s = refl
 
@@ -113,7 +114,8 @@ steps-marked g a p s =
     joined g a (okOps (build g) a p) (magicOps (build g) a) (okIn g (trailerSector (build g) a) p) (magicIn g (trailerSector (build g) a))
     (steps-ok g a p) (steps-magic g a) s
 
-pub steps-erases : (g : Geometry) (a : Area) (i k : ℕ) (s : State) → steps (build g) (erases a i k) s ≡ back a s (erasesIn g i k (in-area a s))
+pub steps-erases : (g : Geometry) (a : Area) (i k : ℕ) (s : State) → steps (build g) (erases a i k) s
+    ≡ back a s (erasesIn g i k (in-area a s))
 unfolding erases erasesIn steps step base
 steps-erases g a i zero s = sym (back-own a s)
 steps-erases g a i (suc k) s =

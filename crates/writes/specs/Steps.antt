@@ -57,7 +57,8 @@ rest-of xs at w k =
     drop-take w (suc k * w) (drop at xs) ∙ ap (λ (n : ℕ). take n (drop w (drop at xs))) e ∙ ap (take (k * w)) (drop-drop w at xs)
 
 -- k units are written from no more bytes than theirs
-pub own-bytes : (g : Geometry) (k : ℕ) (u : Unit) (bs : List ℕ) (l : Local) → writeAllIn g u k (part bs 0 (k * g .unit)) l ≡ writeAllIn g u k bs l
+pub own-bytes : (g : Geometry) (k : ℕ) (u : Unit) (bs : List ℕ) (l : Local) → writeAllIn g u k (part bs 0 (k * g .unit)) l
+    ≡ writeAllIn g u k bs l
 unfolding writeAllIn part
 own-bytes g zero u bs l = refl
 own-bytes g (suc k) u bs l =

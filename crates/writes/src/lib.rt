@@ -38,7 +38,8 @@ pub fn write_mark(g: Geometry, area: &mut [u8], i: Sector, at: Offset, value: u8
 pub fn write_progress(g: Geometry, slot0: &mut [u8], k: usize, run: Run) -> Run
     requires { ⌜ Small g ⌝ }
     requires { ⌜ k < 3 * g .sectors ⌝ }
-    ensures { λ r. ⌜ local (now (slot0 .exit)) r ≡ markIn g (trailerSector (build g) Area.slot0) (markAt (build g) k) (1 + k % 3) (local (now (slot0 .entry)) run) ⌝ }
+    ensures { λ r. ⌜ local (now (slot0 .exit)) r ≡ markIn g (trailerSector (build g) Area.slot0) (markAt (build g) k) (1 + k % 3)
+        (local (now (slot0 .entry)) run) ⌝ }
 {
     let at = progress::mark_place(g, k);
     let value = (1 + k % 3) as u8;

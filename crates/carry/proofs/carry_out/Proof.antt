@@ -83,7 +83,8 @@ returns : tie.Need-returns
 unfolding listOf base okUnset
 returns c =
     let given =
-    c .before .before .before .before .before .before .before .before .before .before .before .before .before .before .before .before .args in
+    c .before .before .before .before .before .before .before .before .before .before .before .before .before .before .before .before .args
+    in
     c .before .before .before .before .before .before .from-line-three .ensures
     ∙ ap (λ (x : Course). steps (build (given .g)) (listOf (build (given .g))
     (okUnset (build (given .g)) (flashOf (given .slot0 .now) (given .slot1 .now) (given .scratch .now))) x)
@@ -104,7 +105,8 @@ returns-2 : tie.Need-returns-2
 unfolding listOf base okUnset
 returns-2 c =
     let given =
-    c .before .before .before .before .before .before .before .before .before .before .before .before .before .before .before .before .args in
+    c .before .before .before .before .before .before .before .before .before .before .before .before .before .before .before .before .args
+    in
     c .before .before .before .before .before .before .data-exchange .ensures
     ∙ ap (λ (x : Course). steps (build (given .g)) (listOf (build (given .g))
     (okUnset (build (given .g)) (flashOf (given .slot0 .now) (given .slot1 .now) (given .scratch .now))) x)

@@ -35,7 +35,9 @@ returns c =
     c .before .before .before .before .before .before .before .before .before .before .before .before .before .before .before .before .before .before .before .before .args in
     lines-three-to-six (given .g) (given .lasting) (given .slot0 .now) (given .slot1 .now) (given .scratch .now)
     (given .run) _ _
-    (c .before .before .before .before .before .before .before .before .before .before .before .before .before .before .erase .ensures) _ _ (c .before .before .before .before .before .before .before .before .before .before .erase2 .ensures) _ _ (c .before .before .before .before .before .before .line-five .ensures) _ _ (c .before .before .erase3 .ensures)
+    (c .before .before .before .before .before .before .before .before .before .before .before .before .before .before .erase .ensures) _ _
+    (c .before .before .before .before .before .before .before .before .before .before .erase2 .ensures) _ _
+    (c .before .before .before .before .before .before .line-five .ensures) _ _ (c .before .before .erase3 .ensures)
 
 pub lines-three-to-six-spec : {M : Type 1} → statement M
 lines-three-to-six-spec =

@@ -15,7 +15,11 @@ mul-t4 c =
       div-le-self
           (c .before .before .args .g .sector) (c .before .before .args .g .unit),
     ) in
-    omega (arith, mul-le-mul {n₁ = c .before .before .args .i .0} {m₁ = c .before .before .args .g .sector / c .before .before .args .g .unit} {n₂ = 128} {m₂ = 65536} (omega arith) (omega arith))
+    omega (
+      arith,
+      mul-le-mul {n₁ = c .before .before .args .i .0}
+          {m₁ = c .before .before .args .g .sector / c .before .before .args .g .unit} {n₂ = 128} {m₂ = 65536} (omega arith) (omega arith),
+    )
 
 returns : tie.Need-returns
 returns c = search needs

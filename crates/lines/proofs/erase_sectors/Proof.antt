@@ -13,7 +13,8 @@ use Rattle.lines.proofs.erase_sectors.Statement.{statement}
 use Rattle.lines.proofs.erase_sectors.Tie as tie
 
 abbrev Inv-loop : tie.InvT-loop
-Inv-loop g area₀ count r₀ i₀ area r i = (i ≤ count) × (length area ≡ length area₀) × (erasesIn g 0 count (local area₀ r₀) ≡ erasesIn g i (count - i) (local area r))
+Inv-loop g area₀ count r₀ i₀ area r i = (i ≤ count) × (length area ≡ length area₀) × (erasesIn g 0 count (local area₀ r₀)
+    ≡ erasesIn g i (count - i) (local area r))
 
 abbrev μ-loop : tie.MeasureT-loop
 μ-loop g area₀ count r₀ i₀ area r i = count - i

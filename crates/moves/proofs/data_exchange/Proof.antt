@@ -24,7 +24,8 @@ write-mark-requires : tie.Need-write-mark-requires
 unfolding base
 write-mark-requires c κs =
     let given =
-    c .before .before .before .before .before .before .before .before .before .before .before .before .before .before .before .before .args in
+    c .before .before .before .before .before .before .before .before .before .before .before .before .before .before .before .before .args
+    in
     let e : c .before .before .done-place .result .0 ≡ given .g .sector - 32 = ap (λ (o : Offset). o .0)
     (c .before .before .done-place .ensures) in
     (c .before .before .before .before .before .before .before .before .before .before .before .before .before .before .before .before .pre .0, (omega (arith, c .before .before .before .before .before .before .before .before .before .before .before .before .before .before .before .before .pre .0 .many), omega (arith, e, c .before .before .before .before .before .before .before .before .before .before .before .before .before .before .before .before .pre .0 .room)))
@@ -47,7 +48,9 @@ returns c =
     (c .before .before .write-mark .ensures)
     ∙ ap (λ (o : Offset). step (build (given .g)) (mark (build (given .g)) Area.slot0 o 1)
     (state
-    (c .before .before .before .before .before .before .before .before .before .before .before .before .moves-from .last .1 .1 .0) (c .before .before .before .before .before .before .before .before .before .before .before .before .moves-from .last .1 .1 .1 .0) (c .before .before .before .before .before .before .before .before .before .before .before .before .moves-from .last .1 .1 .1 .1 .0) (c .before .before .before .before .before .before .before .before .before .before .before .before .moves-from .result))) (c .before .before .before .before .before .done-place .ensures)
+    (c .before .before .before .before .before .before .before .before .before .before .before .before .moves-from .last .1 .1 .0)
+    (c .before .before .before .before .before .before .before .before .before .before .before .before .moves-from .last .1 .1 .1 .0)
+    (c .before .before .before .before .before .before .before .before .before .before .before .before .moves-from .last .1 .1 .1 .1 .0) (c .before .before .before .before .before .before .before .before .before .before .before .before .moves-from .result))) (c .before .before .before .before .before .done-place .ensures)
     ∙
     c .before .before .before .before .before .before .before .before .before .before .before .before .moves-from .ensures
 

@@ -11,7 +11,10 @@ use Rattle.moves.proofs.moves_from.Statement.{statement}
 use Rattle.moves.proofs.moves_from.Tie as tie
 
 abbrev Inv-loop : tie.InvT-loop
-Inv-loop g c slot0₀ slot1₀ scratch₀ r₀ k₀ slot0 slot1 scratch r k = (c ≤ k) × (k ≤ 3 * g .sectors) × (length slot0 ≡ length slot0₀) × (length slot1 ≡ length slot1₀) × (length scratch ≡ length scratch₀) × (steps (build g) (dataOps (build g) k (drop (k - 3) (allMoves (g .sectors - 1)))) (state slot0 slot1 scratch r) ≡ steps (build g) (dataOps (build g) c (drop (c - 3) (allMoves (g .sectors - 1)))) (state slot0₀ slot1₀ scratch₀ r₀))
+Inv-loop g c slot0₀ slot1₀ scratch₀ r₀ k₀ slot0 slot1 scratch r k = (c ≤ k) × (k ≤ 3 * g .sectors) × (length slot0
+    ≡ length slot0₀) × (length slot1 ≡ length slot1₀) × (length scratch
+    ≡ length scratch₀) × (steps (build g) (dataOps (build g) k (drop (k - 3) (allMoves (g .sectors - 1)))) (state slot0 slot1 scratch r)
+    ≡ steps (build g) (dataOps (build g) c (drop (c - 3) (allMoves (g .sectors - 1)))) (state slot0₀ slot1₀ scratch₀ r₀))
 
 abbrev μ-loop : tie.MeasureT-loop
 μ-loop g c slot0₀ slot1₀ scratch₀ r₀ k₀ slot0 slot1 scratch r k = 3 * g .sectors - k
@@ -40,7 +43,8 @@ loop-again c =
       search needs,
       search needs,
       search needs,
-      ap (steps (build (given .g)) (dataOps (build (given .g)) (k + 1) (drop (k + 1 - 3) (allMoves (given .g .sectors - 1))))) (c .before .before .before .before .before .before .marked-move .ensures)
+      ap (steps (build (given .g)) (dataOps (build (given .g)) (k + 1) (drop (k + 1 - 3) (allMoves (given .g .sectors - 1)))))
+          (c .before .before .before .before .before .before .marked-move .ensures)
           ∙ sym (next-mark (given .g) k _ (omega (arith, c .before .before .before .before .before .before .before .before .before .before .before .before .before .before .before .before .pre .1)) (omega arith)) ∙ c .before .before .before .before .before .before .before .before .before .before .before .before .loop .inv .5,
     )
 

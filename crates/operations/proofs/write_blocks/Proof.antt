@@ -27,19 +27,16 @@ returns c =
     let small = c .before .before .before .before .before .before .before .before .pre .0 in
     let copied = c .before .before .copy-blank in
     let at = c .before .before .before .before .before .place-of .ensures in
-    let counted =
-    copied .ensures .0
-    ∙ ap₂ (λ (o p : Offset). blanks 512 (o .0)
-    (min (min (p .0) (length (given .src .now) - given .from .0)) (length (given .dst .now) - o .0) / 512) (given .dst .now))
-    at (c .before .before .before .before .place-of2 .ensures) in
-    let there =
-    front-there (given .g) small (given .to) (given .reached) (given .src .now) (given .from .0) (given .dst .now) (copied .result) counted in
-    let ends =
-    front-ends (given .g) small (given .to) (given .reached) (given .src .now) (given .from .0) (given .dst .now) (copied .result) counted
+    let counted = copied .ensures .0 ∙ ap₂ (λ (o p : Offset). blanks 512 (o .0)
+    (min (min (p .0) (length (given .src .now) - given .from .0)) (length (given .dst .now) - o .0) / 512)
+    (given .dst .now)) at (c .before .before .before .before .place-of2 .ensures) in
+    let there = front-there (given .g) small (given .to) (given .reached) (given .src .now) (given .from .0)
+    (given .dst .now) (copied .result) counted in
+    let ends = front-ends (given .g) small (given .to) (given .reached) (given .src .now) (given .from .0)
+    (given .dst .now) (copied .result) counted
     (c .before .before .before .before .before .before .before .before .pre .1) in
-    let bytes =
-    copied .ensures .1
-    ∙ ap (λ (o : Offset). put (given .dst .now) (o .0) (part (given .src .now) (given .from .0) (copied .result * 512))) at in
+    let bytes = copied .ensures .1 ∙ ap (λ (o : Offset). put (given .dst .now) (o .0)
+    (part (given .src .now) (given .from .0) (copied .result * 512))) at in
     (counted, ((there .0, there .1, ends), bytes))
 
 pub write-blocks-spec : {M : Type 1} → statement M

@@ -60,16 +60,13 @@ same-length c = search needs
 
 returns : tie.Need-returns
 returns c =
-    let given = c .before .before .before .before .before .before .before .before .before .before .before .before .before .before .before .before .before .before .args in
-    let blocks = c .before .before .before .before .before .before .before .before .before .before .before .before .before .before .write-blocks in
+    let given =
+    c .before .before .before .before .before .before .before .before .before .before .before .before .before .before .before .before .before .before .args in
+    let blocks =
+    c .before .before .before .before .before .before .before .before .before .before .before .before .before .before .write-blocks in
     let more = c .before .before .before .before .before .before .before .before .blank-units in
-    let parts =
-    both-parts (given .g) (c .before .before .before .before .before .before .before .before .before .before .before .before .before .before .before .before .before .before .pre .0) (given .to) (given .reached) (given .src .now) (given .from .0) (given .dst .now) (blocks .result)
-    (blocks .ensures .0) (more .result) _ _ (blocks .ensures .1 .1) (more .ensures .0)
-    (c .before .before .copy .ensures
-    ∙ ap₂ (λ (o p : Offset). put (blocks .last .1 .1 .1 .0) (o .0 + blocks .result * 512) (part (given .src .now) (given .from .0 + blocks .result * 512) (p .0)))
-    (c .before .before .before .before .before .before .before .place-of .ensures)
-    (c .before .before .before .before .before .before .place-of2 .ensures)) in
+    let parts = both-parts (given .g)
+    (c .before .before .before .before .before .before .before .before .before .before .before .before .before .before .before .before .before .before .pre .0) (given .to) (given .reached) (given .src .now) (given .from .0) (given .dst .now) (blocks .result) (blocks .ensures .0) (more .result) _ _ (blocks .ensures .1 .1) (more .ensures .0) (c .before .before .copy .ensures ∙ ap₂ (λ (o p : Offset). put (blocks .last .1 .1 .1 .0) (o .0 + blocks .result * 512) (part (given .src .now) (given .from .0 + blocks .result * 512) (p .0))) (c .before .before .before .before .before .before .before .place-of .ensures) (c .before .before .before .before .before .before .place-of2 .ensures)) in
     ((parts .0, omega (arith, more .ensures .1, blocks .ensures .1 .0 .1)), parts .1)
 
 pub write-erased-spec : {M : Type 1} → statement M

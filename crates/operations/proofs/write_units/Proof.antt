@@ -37,15 +37,15 @@ returns-2 : tie.Need-returns-2
 returns-2 c =
     let given = c .before .before .before .before .args in
     sym (halted-run (given .g) (given .units) (given .to)
-    (part (given .src .now) (given .from .0) (given .units * given .g .unit)) (given .dst .now) (given .run)
-    Stopped stopped-halts (c .enum-told2 .given .1))
+    (part (given .src .now) (given .from .0) (given .units * given .g .unit)) (given .dst .now) (given .run) Stopped
+    stopped-halts (c .enum-told2 .given .1))
 
 returns-3 : tie.Need-returns-3
 returns-3 c =
     let given = c .before .before .before .before .args in
     sym (halted-run (given .g) (given .units) (given .to)
-    (part (given .src .now) (given .from .0) (given .units * given .g .unit)) (given .dst .now) (given .run)
-    Unerased unerased-halts (c .enum-told3 .given .1))
+    (part (given .src .now) (given .from .0) (given .units * given .g .unit)) (given .dst .now) (given .run) Unerased
+    unerased-halts (c .enum-told3 .given .1))
 
 pub write-units-spec : {M : Type 1} → statement M
 write-units-spec =

@@ -70,7 +70,8 @@ loop-again c =
     ∙ sym (c .before .before .before .before .before .all-blank .ensures) ∙ c .before .before .before .before .if1 .taken in (
       omega arith,
       c .before .before .copy-within .ensures
-          ∙ ap (λ (ys : List ℕ). put ys (given .at + loop .k * 512) (part (given .src .now) (given .from + loop .k * 512) 512)) (loop .inv .1)
+          ∙ ap (λ (ys : List ℕ). put ys (given .at + loop .k * 512) (part (given .src .now) (given .from + loop .k * 512) 512))
+          (loop .inv .1)
           ∙ copy-more (given .dst .now) (given .at) (given .src .now) (given .from) (loop .k * 512) 512
           ∙ ap (λ (n : ℕ). put (given .dst .now) (given .at) (part (given .src .now) (given .from) n)) more,
       loop .inv .2 ∙ blanks-next 512 (given .at) (given .blocks) (loop .k) (given .dst .now) (omega arith) looked,
@@ -83,11 +84,14 @@ returns : tie.Need-returns Inv-loop μ-loop
 returns c =
     let given = c .before .before .before .before .before .before .before .args in
     let loop = c .before .before .before .before .loop in
-    let looked : same (part (given .dst .now) (given .at + loop .k * 512) 512) (blank 512) ≡ false =
-    ap (λ (ys : List ℕ). same ys (blank 512)) (sym (ap (λ (xs : List ℕ). part xs (given .at + loop .k * 512) 512) (loop .inv .1)
-    ∙ behind-copy (given .dst .now) (given .at) (given .src .now) (given .from) (loop .k) 512))
-    ∙ sym (c .before .all-blank .ensures) ∙ c .if1 .left in
-    (sym (loop .inv .2 ∙ blanks-stop 512 (given .at) (given .blocks) (loop .k) (given .dst .now) (omega arith) looked), loop .inv .1)
+    let looked : same (part (given .dst .now) (given .at + loop .k * 512) 512) (blank 512) ≡ false = ap
+    (λ (ys : List ℕ). same ys (blank 512)) (sym (ap (λ (xs : List ℕ). part xs (given .at + loop .k * 512) 512)
+    (loop .inv .1) ∙ behind-copy (given .dst .now) (given .at) (given .src .now) (given .from) (loop .k) 512)) ∙ sym
+    (c .before .all-blank .ensures) ∙ c .if1 .left in (
+      sym (loop .inv .2 ∙ blanks-stop 512 (given .at) (given .blocks) (loop .k) (given .dst .now) (omega arith)
+          looked),
+      loop .inv .1,
+    )
 
 same-length-2 : tie.Need-same-length-2 Inv-loop μ-loop
 same-length-2 c = simp length-put at (ap length (c .before .loop .inv .1))
@@ -97,8 +101,11 @@ unfolding blanks
 returns-2 c =
     let given = c .before .before .before .before .args in
     let loop = c .before .loop in
-    let over : given .blocks - loop .k ≡ 0 = omega arith in
-    (sym (loop .inv .2 ∙ ap (λ (m : ℕ). loop .k + blanks 512 (given .at + loop .k * 512) m (given .dst .now)) over ∙ omega arith), loop .inv .1)
+    let over : given .blocks - loop .k ≡ 0 = omega arith in (
+      sym (loop .inv .2 ∙ ap (λ (m : ℕ). loop .k + blanks 512 (given .at + loop .k * 512) m (given .dst .now)) over ∙
+          omega arith),
+      loop .inv .1,
+    )
 
 pub copy-blank-blocks-spec : {M : Type 1} → statement M
 copy-blank-blocks-spec =

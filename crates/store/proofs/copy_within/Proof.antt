@@ -57,4 +57,5 @@ returns c =
 pub copy-within-spec : {M : Type 1} → statement M
 copy-within-spec =
     tie.close
-    (tie.spec Inv-loop μ-loop loop-holds add-dst shared-slice-read-dst add-dst-2 slice-write-dst add-i loop-less loop-again same-length returns)
+    (tie.spec Inv-loop μ-loop loop-holds add-dst shared-slice-read-dst add-dst-2 slice-write-dst add-i loop-less loop-again same-length
+    returns)

@@ -40,7 +40,8 @@ returns c =
     (o + given .at .0))) e in
     let n : c .unit-at .result .0 ≡
     (given .i .0 * given .g .sector + given .at .0) / given .g .unit = ap (λ (u : Unit). u .0) r in
-    let most : given .i .0 * given .g .sector ≤ 127 * 65536 = mul-le-mul {n₁ = given .i .0} {m₁ = given .g .sector} {n₂ = 127} {m₂ = 65536} (omega arith) (omega arith) in (
+    let most : given .i .0 * given .g .sector ≤ 127 * 65536 = mul-le-mul {n₁ = given .i .0} {m₁ = given .g .sector} {n₂ = 127} {m₂ = 65536}
+    (omega arith) (omega arith) in (
       r,
       omega (
         arith,

@@ -28,7 +28,8 @@ unfolding base
 write-mark-requires c κs =
     let given = c .before .before .before .before .args in
     let e : c .before .before .mark-place .result .0
-    ≡ given .g .sector - 32 - 3 * given .g .sectors * given .g .unit + given .k * given .g .unit = ap (λ (o : Offset). o .0) (c .before .before .mark-place .ensures) in
+    ≡ given .g .sector - 32 - 3 * given .g .sectors * given .g .unit + given .k * given .g .unit = ap (λ (o : Offset). o .0)
+    (c .before .before .mark-place .ensures) in
     let f = marks-fit (given .g) (given .k)
     (c .before .before .before .before .pre .0) (omega arith) in (
       c .before .before .before .before .pre .0,

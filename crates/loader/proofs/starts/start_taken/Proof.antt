@@ -59,7 +59,9 @@ returns-2 c =
     let e =
     c .before .before .before .before .before .before .before .before .before .before .before .before .decided .ensures .0 in
     let d : isDamage
-    (c .before .before .before .before .before .before .before .before .before .before .before .before .decided .result) ≡ false = sym (c .before .before .before .before .before .before .before .before .before .before .before .is-damage .ensures) ∙ c .before .before .before .before .before .before .before .before .before .before .if1 .left in
+    (c .before .before .before .before .before .before .before .before .before .before .before .before .decided .result)
+    ≡ false = sym (c .before .before .before .before .before .before .before .before .before .before .before .is-damage .ensures) ∙
+    c .before .before .before .before .before .before .before .before .before .before .if1 .left in
     c .before .before .before .before .before .before .take-course .ensures
     ∙ sym (undamaged (given .checked) (given .g) (given .allowance)
     (flashOf (given .slot0 .now) (given .slot1 .now) (given .scratch .now))

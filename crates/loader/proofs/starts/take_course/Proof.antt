@@ -30,7 +30,9 @@ sub-t20 c =
       arith,
       left,
       steps-left (build
-          (given .g)) (listOf (build (given .g)) (okUnset (build (given .g)) (flashOf (given .slot0 .now) (given .slot1 .now) (given .scratch .now))) (given .course)) (start (given .allowance) (flashOf (given .slot0 .now) (given .slot1 .now) (given .scratch .now))),
+          (given .g)) (listOf (build (given .g)) (okUnset (build (given .g))
+          (flashOf (given .slot0 .now) (given .slot1 .now) (given .scratch .now))) (given .course))
+          (start (given .allowance) (flashOf (given .slot0 .now) (given .slot1 .now) (given .scratch .now))),
     )
 
 outcome-of-requires : tie.Need-outcome-of-requires
