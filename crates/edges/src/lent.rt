@@ -1,137 +1,142 @@
 // The loader's functions on a flash that is laid out as a dump: its three areas are lent as copies, and copied back.
-use crate::flashes::Flash;
-use crate::flashes::SCRATCH;
-use crate::flashes::SLOT1;
+ghost use mathlib.Core.Path.{_≡_};
+ghost use lib.ListN.{length};
+use crate::read::Command;
+use crate::words;
 use answers::numbers::MarkNumbers;
 use answers::numbers::Numbers;
 
-type Area = [u8; 1024];
-
-fn area_at(flash: &Flash, at: usize) -> Area {
-    let mut area = [0u8; 1024];
-    store::copy(flash, at, &mut area, 0, 1024);
-    area
+// The geometry, and how many bytes of a slot, of scratch and of all three areas are lent.
+pub struct Lent {
+    pub unit: usize,
+    pub sector: usize,
+    pub sectors: usize,
+    pub slot: usize,
+    pub scratch: usize,
+    pub size: usize,
 }
 
-fn back(flash: &mut Flash, slot0: &Area, slot1: &Area, scratch: &Area) {
-    store::copy(slot0, 0, flash, 0, 1024);
-    store::copy(slot1, 0, flash, SLOT1, 1024);
-    store::copy(scratch, 0, flash, SCRATCH, 1024);
-}
-
-pub fn start(flash: &mut Flash, allowance: u64) -> Numbers {
-    let mut slot0 = area_at(flash, 0);
-    let mut slot1 = area_at(flash, SLOT1);
-    let mut scratch = area_at(flash, SCRATCH);
-    let answer = plain(&mut slot0, &mut slot1, &mut scratch, allowance);
-    back(flash, &slot0, &slot1, &scratch);
-    answer
-}
-
-fn plain(slot0: &mut Area, slot1: &mut Area, scratch: &mut Area, allowance: u64) -> Numbers {
-    scale::scale_power_up(1, 512, 2, slot0, slot1, scratch, allowance)
-}
-
-fn first_of(
-    unit: usize,
-    sector: usize,
-    sectors: usize,
-    slot0: &mut [u8],
-    slot1: &mut [u8],
-    scratch: &mut [u8],
-    slot: usize,
-    both: usize,
-) -> Numbers {
-    if slot <= slot0.len() && slot <= slot1.len() && both <= scratch.len() {
-        scale::scale_power_up(
-            unit,
-            sector,
-            sectors,
-            &mut slot0[0..slot],
-            &mut slot1[0..slot],
-            &mut scratch[0..both],
-            4000,
-        )
-    } else {
-        scale::scale_power_up(unit, sector, sectors, slot0, slot1, scratch, 4000)
+pub fn geometry(c: Command) -> Lent {
+    Lent {
+        unit: c.a,
+        sector: c.b,
+        sectors: c.c,
+        slot: c.d,
+        scratch: c.e,
+        size: std::num::wrapping_add_usize(std::num::wrapping_add_usize(c.d, c.d), c.e),
     }
 }
 
-fn first_parts(
-    unit: usize,
-    sector: usize,
-    sectors: usize,
-    slot0: &mut Area,
-    slot1: &mut Area,
-    scratch: &mut Area,
-    slot: usize,
-    both: usize,
+// The place in the flash of a byte of an area; what lies behind scratch is no area's.
+pub fn place(lent: Lent, area: usize, at: usize) -> usize {
+    match area {
+        0 => at,
+        1 => std::num::wrapping_add_usize(lent.slot, at),
+        _ => std::num::wrapping_add_usize(std::num::wrapping_add_usize(lent.slot, lent.slot), at),
+    }
+}
+
+// In the place of what was done: marking or confirming answered; the areas are too long to be lent.
+pub const MARKED: u64 = 6;
+
+pub const TOO_LONG: u64 = 7;
+
+fn of_marked(marked: MarkNumbers) -> Numbers {
+    Numbers {
+        done: MARKED,
+        found: 0,
+        count: marked.count,
+        end: 0,
+        offset: 0,
+        refusal: marked.refusal,
+        cause: 0,
+    }
+}
+
+fn asked(
+    word: usize,
+    lent: Lent,
+    allowance: u64,
+    slot0: &mut [u8],
+    slot1: &mut [u8],
+    scratch: &mut [u8],
 ) -> Numbers {
-    first_of(unit, sector, sectors, slot0, slot1, scratch, slot, both)
+    let w = lent.unit;
+    let s = lent.sector;
+    let n = lent.sectors;
+    if word == words::START {
+        return scale::scale_power_up(w, s, n, slot0, slot1, scratch, allowance);
+    }
+    if word == words::FULL {
+        return scale::scale_full_start(w, s, n, slot0, slot1, scratch, allowance, true);
+    }
+    if word == words::CONFIRM {
+        return of_marked(scale::scale_confirm(w, s, n, slot0, slot1, scratch));
+    }
+    of_marked(scale::scale_mark(w, s, n, slot0, slot1, scratch, word == words::PERMANENT))
 }
 
-// The first bytes of each area, so many of a slot and so many of scratch, in a geometry of their own.
-pub fn start_in(
-    flash: &mut Flash,
-    unit: usize,
-    sector: usize,
-    sectors: usize,
-    slot: usize,
-    both: usize,
+// The areas' first bytes are lent, as many as are to be.
+fn lend(
+    word: usize,
+    lent: Lent,
+    allowance: u64,
+    slot0: &mut [u8],
+    slot1: &mut [u8],
+    scratch: &mut [u8],
 ) -> Numbers {
-    let mut slot0 = area_at(flash, 0);
-    let mut slot1 = area_at(flash, SLOT1);
-    let mut scratch = area_at(flash, SCRATCH);
-    let answer = first_parts(
-        unit,
-        sector,
-        sectors,
-        &mut slot0,
-        &mut slot1,
-        &mut scratch,
-        slot,
-        both,
-    );
-    back(flash, &slot0, &slot1, &scratch);
+    let slot = lent.slot;
+    let both = lent.scratch;
+    if slot <= slot0.len() {
+        if slot <= slot1.len() {
+            if both <= scratch.len() {
+                return asked(
+                    word,
+                    lent,
+                    allowance,
+                    &mut slot0[0..slot],
+                    &mut slot1[0..slot],
+                    &mut scratch[0..both],
+                );
+            }
+        }
+    }
+    Numbers {
+        done: TOO_LONG,
+        found: 0,
+        count: 0,
+        end: 0,
+        offset: 0,
+        refusal: 0,
+        cause: 0,
+    }
+}
+
+fn area_at(flash: &[u8], at: usize, size: usize) -> [u8; 65536]
+    ensures { λ r. ⌜ 65536 ≡ length r ⌝ }
+{
+    let mut area = io::large_buffer();
+    store::copy(flash, at, &mut area, 0, size);
+    area
+}
+
+fn back(
+    lent: Lent,
+    flash: &mut [u8],
+    slot0: &[u8; 65536],
+    slot1: &[u8; 65536],
+    scratch: &[u8; 65536],
+) {
+    store::copy(slot0, 0, flash, 0, lent.slot);
+    store::copy(slot1, 0, flash, lent.slot, lent.slot);
+    store::copy(scratch, 0, flash, place(lent, 2, 0), lent.scratch);
+}
+
+pub fn call(word: usize, lent: Lent, allowance: u64, flash: &mut [u8]) -> Numbers {
+    let mut slot0 = area_at(flash, 0, lent.slot);
+    let mut slot1 = area_at(flash, lent.slot, lent.slot);
+    let mut scratch = area_at(flash, place(lent, 2, 0), lent.scratch);
+    let answer = lend(word, lent, allowance, &mut slot0, &mut slot1, &mut scratch);
+    back(lent, flash, &slot0, &slot1, &scratch);
     answer
-}
-
-fn full(slot0: &mut Area, slot1: &mut Area, scratch: &mut Area) -> Numbers {
-    scale::scale_full_start(1, 512, 2, slot0, slot1, scratch, 0, true)
-}
-
-// The full start, with slot 0 checked, when nothing else is due.
-pub fn checked_start(flash: &mut Flash) -> Numbers {
-    let mut slot0 = area_at(flash, 0);
-    let mut slot1 = area_at(flash, SLOT1);
-    let mut scratch = area_at(flash, SCRATCH);
-    let answer = full(&mut slot0, &mut slot1, &mut scratch);
-    back(flash, &slot0, &slot1, &scratch);
-    answer
-}
-
-fn mark_lent(slot0: &Area, slot1: &mut Area, scratch: &Area, permanent: bool) -> MarkNumbers {
-    scale::scale_mark(1, 512, 2, slot0, slot1, scratch, permanent)
-}
-
-pub fn mark(flash: &mut Flash, permanent: bool) -> MarkNumbers {
-    let slot0 = area_at(flash, 0);
-    let mut slot1 = area_at(flash, SLOT1);
-    let scratch = area_at(flash, SCRATCH);
-    let marked = mark_lent(&slot0, &mut slot1, &scratch, permanent);
-    back(flash, &slot0, &slot1, &scratch);
-    marked
-}
-
-fn confirm_lent(slot0: &mut Area, slot1: &Area, scratch: &Area) -> MarkNumbers {
-    scale::scale_confirm(1, 512, 2, slot0, slot1, scratch)
-}
-
-pub fn confirm(flash: &mut Flash) -> MarkNumbers {
-    let mut slot0 = area_at(flash, 0);
-    let slot1 = area_at(flash, SLOT1);
-    let scratch = area_at(flash, SCRATCH);
-    let marked = confirm_lent(&mut slot0, &slot1, &scratch);
-    back(flash, &slot0, &slot1, &scratch);
-    marked
 }

@@ -1,47 +1,52 @@
-// The edges of document 01 that are run, not proved: a line for each, held to the file stdout.
-mod counts;
-mod cuts;
-mod flashes;
+// The edges of document 01 that are run, not proved, and the worked examples of SHA-256: the script on standard input is carried out, and
+// what it prints is held to the file stdout. The script begins with what its commands mean.
 mod lent;
-mod refusals;
-mod say;
-mod states;
+mod obey;
+mod read;
+mod words;
 
-use flashes::Flash;
+use lent::Lent;
+use libc::STDIN_FILENO;
+ghost use mathlib.Core.Path.{_≡_};
+ghost use lib.ListN.{length};
 
-fn operations(flash: &mut Flash) {
-    counts::exchanges(flash);
-    counts::nothing_allowed(flash);
-    states::due(flash);
-    states::near_misses(flash);
-    states::clear_outs(flash);
-    states::more_clear_outs(flash);
-    states::scratch(flash);
+// Only the length is said of it: a list of a million is not written out in a proof.
+fn million_times_a() -> [u8; 1000000]
+    ensures { λ r. ⌜ 1000000 ≡ length r ⌝ }
+{
+    [97; 1000000]
 }
 
-fn refusals_1_to_4(flash: &mut Flash) {
-    refusals::geometry(flash);
-    refusals::lengths(flash);
-    refusals::runs(flash);
-    refusals::past_marks(flash);
-    refusals::scratch_damage(flash);
-    refusals::headers(flash);
-    refusals::images(flash);
-    refusals::more_images(flash);
-}
-
-fn marking(flash: &mut Flash) {
-    refusals::marking(flash);
-    refusals::marking_refused(flash);
-    refusals::confirming(flash);
-    refusals::trials(flash);
+// Each command; comments and blanks are passed over.
+fn run(script: &[u8], flash: &mut [u8], kept: &mut [u8]) {
+    let mut lent = Lent {
+        unit: 0,
+        sector: 0,
+        sectors: 0,
+        slot: 0,
+        scratch: 0,
+        size: 0,
+    };
+    let mut at = 0;
+    while at < script.len() {
+        let byte = script[at];
+        let line = bytes::scan::find(script, at, script.len(), b'\n');
+        if byte == b'#' {
+            at = line + 1;
+        } else if byte == b' ' || byte == b'\n' {
+            at += 1;
+        } else {
+            let end = bytes::scan::find(script, at, line, b';');
+            lent = obey::obey(script, at, end, lent, flash, kept);
+            at = end + 1;
+        }
+    }
 }
 
 fn main() {
-    let mut flash = [0u8; 3072];
-    operations(&mut flash);
-    refusals_1_to_4(&mut flash);
-    marking(&mut flash);
-    cuts::resumed(&mut flash);
-    cuts::every_cut(&mut flash);
+    let mut script = io::large_buffer();
+    let mut flash = million_times_a();
+    let mut kept = million_times_a();
+    let size = io::read_full(STDIN_FILENO, &mut script);
+    run(&script[..size], &mut flash, &mut kept);
 }

@@ -1,4 +1,5 @@
-// A start's answer as the words of document 01's line: what was done, c as found, the count, then how it ended and its number.
+// A start's answer as the words of document 01's line: what was done, c as found, the count, then how it ended and its number; and the cause, where
+// the full start has one.
 use answers::numbers::Numbers;
 use libc::STDOUT_FILENO;
 
@@ -37,6 +38,10 @@ fn write_end(answer: Numbers) {
         _ => {
             write(b" refused");
             write_number(answer.refusal);
+            if answer.cause != 0 {
+                write(b" cause");
+                write_number(answer.cause);
+            }
         }
     }
 }

@@ -1,8 +1,8 @@
 use mathlib.Core.Path.{_≡_, sym}
 use Prim.Native.Nat.{ℕ}
 use lib.ListN.{length, replicate, length-replicate}
-use Rattle.vectors.proofs.million_times_a.Statement.{statement}
-use Rattle.vectors.proofs.million_times_a.Tie as tie
+use Rattle.edges.proofs.million_times_a.Statement.{statement}
+use Rattle.edges.proofs.million_times_a.Tie as tie
 
 -- over any number, so that the list of a million is never written out
 long : (n : ℕ) → n ≡ length {A = ℕ} (replicate n 97)
