@@ -11,7 +11,7 @@ use Rattle.flash.specs.declared.Geometry.{Geometry}
 use Rattle.flash.specs.Build.{Build, Flash}
 use Rattle.flash.specs.Base.{build}
 use Rattle.trailer.specs.Trailer.{okAt, doneAt, magicOf, isGood, markOf, isUnset, hasValue, written, legal}
-use Rattle.image.specs.declared.Verdict.{Verdict}
+use Rattle.causes.specs.declared.Verdict.{Verdict}
 use Rattle.image.specs.Check.{check, isAccepted, accepted}
 use Rattle.image.specs.Image.{Image}
 use Rattle.image.specs.Theorem.{accepts-images, accepts-only-images}

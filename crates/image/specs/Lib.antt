@@ -1,9 +1,6 @@
-pub mod Header
-pub mod Check
-pub mod Image
-pub mod Edges
-pub mod LaidLaws
-pub mod LayoutLaws
-pub mod CheckLaws
-pub mod StructureLaws
-pub mod Theorem
+-- what an image is and what the check answers, for those who use the check
+pub use Rattle.causes.specs.Header
+pub use Rattle.causes.specs.Check
+pub use Rattle.causes.specs.Image
+pub use Rattle.causes.specs.Edges
+pub use Rattle.causes.specs.Theorem
