@@ -1,6 +1,6 @@
 -- Document 01, "Refusal numbers", and the values of an answer: this paper's number for each case of an enum.
 use Prim.Native.Nat.{ℕ}
-use Rattle.image.specs.Check.{numberOf}
+use Rattle.causes.specs.Check.{numberOf}
 use Rattle.plan.specs.declared.Done.{Done}
 use Rattle.answers.specs.declared.Refusal.{Refusal}
 use Rattle.answers.specs.declared.Refusal.the-variants.{Geometry, Damage, Header, Image, Marks, UnderWay, Needs, Unerased}

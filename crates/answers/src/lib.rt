@@ -1,5 +1,5 @@
 // What the loader answers.
-use image::Cause;
+use causes::Cause;
 use plan::Done;
 
 pub mod numbers;

@@ -1,6 +1,5 @@
 // Document 01's numbers of what the loader answers; specs/Numbers.antt has them.
 ghost use mathlib.Core.Path.{_≡_};
-ghost use Rattle.image.specs.Check.{numberOf};
 ghost use Rattle.answers.specs.Numbers.{refusalNumber, refusalCause, doneNumber, endNumber, offsetNumber, outcomeRefusal, outcomeCause, endingRefusal};
 ghost use Rattle.answers.specs.Numbers.{withOutcome, answerNumbers, markedNumbers};
 use crate::Answer;
@@ -8,7 +7,6 @@ use crate::Ending;
 use crate::Marked;
 use crate::Outcome;
 use crate::Refusal;
-use image::Cause;
 use plan::Done;
 
 // The answer of a start; a field that does not apply is 0.
@@ -58,23 +56,11 @@ fn refusal(refusal: Refusal) -> u64
     }
 }
 
-fn cause(cause: Cause) -> u64
-    ensures { λ r. ⌜ r ≡ numberOf cause ⌝ }
-{
-    match cause {
-        Cause::HeaderMagic => 1,
-        Cause::HeaderSizes => 2,
-        Cause::RecordsArea => 3,
-        Cause::DigestRecord => 4,
-        Cause::DigestDiffers => 5,
-    }
-}
-
 fn refusal_cause(refusal: Refusal) -> u64
     ensures { λ r. ⌜ r ≡ refusalCause refusal ⌝ }
 {
     match refusal {
-        Refusal::Image(c) => cause(c),
+        Refusal::Image(c) => causes::number(c) as u64,
         Refusal::Geometry => 0,
         Refusal::Damage => 0,
         Refusal::Header => 0,

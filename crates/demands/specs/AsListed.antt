@@ -13,7 +13,7 @@ use Rattle.flash.specs.declared.End.the-variants.{Going, Stopped}
 use Rattle.flash.specs.Build.{Flash, valid}
 use Rattle.flash.specs.Base.{base, build}
 use Rattle.flash.specs.Operations.{Op, run, start, steps}
-use Rattle.image.specs.Check.{accepted}
+use Rattle.causes.specs.Check.{accepted}
 use Rattle.plan.specs.declared.Course.{Course}
 use Rattle.plan.specs.Decision.{decide, listOf, okUnset, inForce, doneOf, foundOf}
 use Rattle.recovery.specs.Statement.{Sound}

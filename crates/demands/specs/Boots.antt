@@ -14,13 +14,13 @@ use Rattle.flash.specs.Geometry.{sectorNo}
 use Rattle.flash.specs.Build.{Flash}
 use Rattle.flash.specs.Base.{base, build}
 use Rattle.flash.specs.Operations.{State, start, steps}
-use Rattle.image.specs.declared.Cause.{Cause}
-use Rattle.image.specs.declared.Cause.the-variants.{HeaderMagic, HeaderSizes}
-use Rattle.image.specs.declared.Header.{Header}
-use Rattle.image.specs.declared.Verdict.{Verdict}
-use Rattle.image.specs.Header.{magicNumber, headerMagic, recordsSize, headerSize, bodySize, imageSize}
-use Rattle.image.specs.Check.{sizes, head, structure, withSizes, digestAt, check, accepted}
-use Rattle.image.specs.Theorem.{accepts-images}
+use Rattle.causes.specs.declared.Cause.{Cause}
+use Rattle.causes.specs.declared.Cause.the-variants.{HeaderMagic, HeaderSizes}
+use Rattle.causes.specs.declared.Header.{Header}
+use Rattle.causes.specs.declared.Verdict.{Verdict}
+use Rattle.causes.specs.Header.{magicNumber, headerMagic, recordsSize, headerSize, bodySize, imageSize}
+use Rattle.causes.specs.Check.{sizes, head, structure, withSizes, digestAt, check, accepted}
+use Rattle.causes.specs.Theorem.{accepts-images}
 use Rattle.plan.specs.declared.Course.{Course}
 use Rattle.plan.specs.Decision.{inForce}
 use Rattle.plan.specs.Lengths.{one-if}

@@ -13,9 +13,9 @@ use Rattle.flash.specs.declared.Geometry.{Geometry}
 use Rattle.flash.specs.Build.{Flash, valid}
 use Rattle.flash.specs.Base.{build}
 use Rattle.flash.specs.Operations.{run}
-use Rattle.image.specs.declared.Header.{Header}
-use Rattle.image.specs.declared.Verdict.{Verdict}
-use Rattle.image.specs.Check.{head, check, accepted}
+use Rattle.causes.specs.declared.Header.{Header}
+use Rattle.causes.specs.declared.Verdict.{Verdict}
+use Rattle.causes.specs.Check.{head, check, accepted}
 use Rattle.plan.specs.declared.Course.{Course}
 use Rattle.plan.specs.declared.Course.the-variants.{Damage}
 use Rattle.plan.specs.Decision.{decide, inForce}

@@ -11,10 +11,10 @@ use Rattle.flash.specs.declared.Geometry.{Geometry}
 use Rattle.flash.specs.Build.{Build, Flash}
 use Rattle.flash.specs.Base.{build}
 use Rattle.trailer.specs.Trailer.{okAt, copyDoneAt, magicOf, isGood, markOf, isUnset, hasValue, written, legal}
-use Rattle.image.specs.declared.Verdict.{Verdict}
-use Rattle.image.specs.Check.{check, isAccepted, accepted}
-use Rattle.image.specs.Image.{Image}
-use Rattle.image.specs.Theorem.{accepts-images, accepts-only-images}
+use Rattle.causes.specs.declared.Verdict.{Verdict}
+use Rattle.causes.specs.Check.{check, isAccepted, accepted}
+use Rattle.causes.specs.Image.{Image}
+use Rattle.causes.specs.Theorem.{accepts-images, accepts-only-images}
 use Rattle.plan.specs.declared.Course.{Course}
 use Rattle.plan.specs.declared.Course.the-variants.{Damage, FromLineThree, Resume, Test, Permanent, Revert, Clear, Nothing}
 use Rattle.plan.specs.Asked.{askedBy, asksCheck}

@@ -11,7 +11,7 @@ use Rattle.flash.specs.declared.Geometry.{Geometry}
 use Rattle.flash.specs.Build.{Flash, valid}
 use Rattle.flash.specs.Base.{build}
 use Rattle.flash.specs.Operations.{start, steps}
-use Rattle.image.specs.Check.{accepted}
+use Rattle.causes.specs.Check.{accepted}
 use Rattle.plan.specs.declared.Course.{Course}
 use Rattle.plan.specs.declared.Course.the-variants.{Damage, FromLineThree, Resume, Test, Permanent, Revert, Clear, Nothing}
 use Rattle.plan.specs.Decision.{decide, listOf, okUnset, inForce}

@@ -2,8 +2,8 @@
 use mathlib.Core.Path.{_≡_}
 use mathlib.Core.List.{List, [], _∷_, _++_, map}
 use Rattle.spans.specs.Table.{Row, row, Holds, no-more, and, holds-append}
-use Rattle.image.specs.Check.{structure}
-use Rattle.image.specs.Edges as image
+use Rattle.causes.specs.Check.{structure}
+use Rattle.causes.specs.Edges as image
 use Rattle.recovery.specs.Edges as recovery
 
 -- the image check's edges: what the bytes come to before the digest

@@ -12,8 +12,8 @@ use crate::read::number_at;
 use crate::read::part;
 use crate::words;
 use answers::numbers::Numbers;
-use image::Step;
 use libc::STDOUT_FILENO;
+use records::Step;
 
 // Flashes are kept under numbers below KEPT, so many bytes apart. Number 0 is the flash before the last call of the loader.
 const APART: usize = 131072;
@@ -178,7 +178,7 @@ fn tell(c: Command, lent: Lent, flash: &mut [u8], kept: &mut [u8]) -> bool {
             place(lent, c.c, c.d),
             c.e,
         ))),
-        words::RECORD => say_record(image::reader::first(bytes_at(
+        words::RECORD => say_record(record_reader::first(bytes_at(
             flash,
             place(lent, c.c, c.d),
             c.e,

@@ -4,7 +4,7 @@ ghost use mathlib.Core.Bool.{true};
 ghost use mathlib.Core.List.{[]};
 ghost use Rattle.flash.specs.Base.{build};
 ghost use Rattle.flash.specs.Small.{Small};
-ghost use Rattle.image.specs.Check.{accepted, head, check};
+ghost use Rattle.causes.specs.Check.{accepted, head, check};
 ghost use Rattle.plan.specs.Asked.{flashOf};
 ghost use Rattle.plan.specs.Bounds.{inBounds};
 ghost use Rattle.plan.specs.Decision.{decide};
@@ -13,11 +13,11 @@ ghost use Rattle.loader.specs.Results.{result, isDamage};
 use answers::Answer;
 use answers::Outcome;
 use answers::Refusal;
+use causes::Header;
+use causes::Verdict;
 use flash::End;
 use flash::Geometry;
 use flash::Run;
-use image::Header;
-use image::Verdict;
 use plan::Course;
 use plan::Done;
 
@@ -79,7 +79,7 @@ fn checked_boot(image: &[u8], offset: usize) -> Outcome
 fn boot_data(image: &[u8], checked: bool) -> Outcome
     ensures { λ r. ⌜ r ≡ started checked (head (now (image .entry))) (check (now (image .entry))) ⌝ }
 {
-    match image::head(image) {
+    match header::head(image) {
         Header::Bad(_) => Outcome::Refused(Refusal::Header),
         Header::Good {
             header,

@@ -1,6 +1,6 @@
 // The C boundary: include/scale.h has the C side. Each function passes its arguments on, and answers in document 01's numbers.
 ghost use mathlib.Core.Path.{_≡_};
-ghost use Rattle.image.specs.Check.{causeOf, check};
+ghost use Rattle.causes.specs.Check.{causeOf, check};
 ghost use Rattle.marking.specs.Marking.{marking, confirming};
 ghost use Rattle.loader.specs.PowerUp.{fullStart, powerUp};
 ghost use Rattle.plan.specs.Asked.{flashOf};

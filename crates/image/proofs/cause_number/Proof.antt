@@ -1,5 +1,5 @@
 use mathlib.Core.Path.{sym, ap, _∙_}
-use Rattle.image.specs.Check.{causeOf}
+use Rattle.causes.specs.Check.{causeOf}
 use borrow.Author.Needs.{needs}
 use Rattle.image.proofs.cause_number.Statement.{statement}
 use Rattle.image.proofs.cause_number.Tie as tie

@@ -1,6 +1,6 @@
 use mathlib.Core.Path.{sym, _∙_}
-use Rattle.image.specs.Check.{check, digestAt}
-use Rattle.image.specs.StructureLaws.{sound-within}
+use Rattle.causes.specs.Check.{check, digestAt}
+use Rattle.causes.specs.StructureLaws.{sound-within}
 use borrow.Author.Needs.{needs}
 use Rattle.image.proofs.check.Statement.{statement}
 use Rattle.image.proofs.check.Tie as tie

@@ -1,4 +1,4 @@
-use Rattle.image.specs.Check.{accepted}
+use Rattle.causes.specs.Check.{accepted}
 use Rattle.plan.specs.Decision.{decide}
 use Rattle.loader.specs.PowerUp.{refused, onCourse, fullStart}
 use Rattle.loader.specs.Results.{refusing}

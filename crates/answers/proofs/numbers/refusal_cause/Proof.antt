@@ -7,8 +7,8 @@ use Rattle.answers.proofs.numbers.refusal_cause.Tie as tie
 enum-known-refusal : tie.Need-enum-known-refusal
 enum-known-refusal c = search needs
 
-cause-requires : tie.Need-cause-requires
-cause-requires c κs = search needs
+number-requires : tie.Need-number-requires
+number-requires c κs = search needs
 
 enum-told : tie.Need-enum-told
 enum-told c = search needs
@@ -33,7 +33,7 @@ enum-told-7 c = search needs
 
 returns : tie.Need-returns
 unfolding refusalCause
-returns c = c .cause .ensures ∙ ap refusalCause (sym (c .before .before .refusal .given .1))
+returns c = c .number .ensures ∙ ap refusalCause (sym (c .before .before .refusal .given .1))
 
 returns-2 : tie.Need-returns-2
 unfolding refusalCause
@@ -68,7 +68,7 @@ refusal-cause-spec =
     tie.close
     (tie.spec
     enum-known-refusal
-    cause-requires
+    number-requires
     enum-told
     enum-told-2
     enum-told-3

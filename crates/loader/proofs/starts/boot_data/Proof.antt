@@ -2,8 +2,8 @@ use mathlib.Core.Path.{sym, ap, _∙_}
 use mathlib.Core.Bool.{Bool}
 use Prim.Native.Nat.{ℕ}
 use Rattle.spans.specs.Choice.{pick}
-use Rattle.image.specs.declared.Header.{Header}
-use Rattle.image.specs.Check.{check}
+use Rattle.causes.specs.declared.Header.{Header}
+use Rattle.causes.specs.Check.{check}
 use Rattle.answers.specs.declared.Outcome.the-variants.{Boot}
 use Rattle.loader.specs.PowerUp.{judgedStart}
 use Rattle.loader.specs.PowerUp.{started}

@@ -1,7 +1,7 @@
 use mathlib.Core.Path.{_≡_, sym, ap, ap₂, _∙_}
 use mathlib.Core.Bool.{false}
 use Rattle.flash.specs.Base.{build}
-use Rattle.image.specs.Check.{accepted}
+use Rattle.causes.specs.Check.{accepted}
 use Rattle.plan.specs.Decision.{decide, judged}
 use Rattle.plan.specs.DecisionLaws.{decide-checked, decide-unchecked}
 use Rattle.plan.specs.Asked.{flashOf, askedBy, asksCheck}

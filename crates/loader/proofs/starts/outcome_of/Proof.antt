@@ -1,7 +1,7 @@
 use mathlib.Core.Path.{sym, ap, _∙_}
 use mathlib.Core.List.{List, []}
 use Prim.Native.Nat.{ℕ}
-use Rattle.image.specs.Check.{head, check}
+use Rattle.causes.specs.Check.{head, check}
 use Rattle.plan.specs.Asked.{flashOf}
 use Rattle.loader.specs.PowerUp.{started, bootOf, ended}
 use borrow.Author.Needs.{needs}

@@ -1,5 +1,5 @@
 use mathlib.Core.Path.{sym, ap, _∙_}
-use Rattle.image.specs.Check.{check, isAccepted, accepted}
+use Rattle.causes.specs.Check.{check, isAccepted, accepted}
 use borrow.Author.Needs.{needs}
 use Rattle.loader.proofs.starts.slot_accepted.Statement.{statement}
 use Rattle.loader.proofs.starts.slot_accepted.Tie as tie

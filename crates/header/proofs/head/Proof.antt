@@ -1,0 +1,27 @@
+use mathlib.Core.Path.{sym}
+use native.Mathlib.Omega.{arith}
+use Rattle.causes.specs.Header.{headerMagic}
+use Rattle.causes.specs.CheckLaws.{head-short, head-other, head-known}
+use borrow.Author.Needs.{needs}
+use Rattle.header.proofs.head.Statement.{statement}
+use Rattle.header.proofs.head.Tie as tie
+
+returns : tie.Need-returns
+returns c = sym (head-short (c .before .before .args .image .now) (omega arith))
+
+four-requires : tie.Need-four-requires
+four-requires c κs = search needs
+
+sizes-requires : tie.Need-sizes-requires
+sizes-requires c κs = search needs
+
+returns-2 : tie.Need-returns-2
+unfolding headerMagic
+returns-2 c = cc (head-known (c .before .before .before .before .before .args .image .now) (omega arith) (omega arith))
+
+returns-3 : tie.Need-returns-3
+unfolding headerMagic
+returns-3 c = sym (head-other (c .before .before .before .before .args .image .now) (omega arith) (λ e. c .if2 .left (cc)))
+
+pub head-spec : {M : Type 1} → statement M
+head-spec = tie.close (tie.spec returns four-requires sizes-requires returns-2 returns-3)

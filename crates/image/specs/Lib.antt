@@ -1,9 +1,0 @@
-pub mod Header
-pub mod Check
-pub mod Image
-pub mod Edges
-pub mod LaidLaws
-pub mod LayoutLaws
-pub mod CheckLaws
-pub mod StructureLaws
-pub mod Theorem

@@ -1,2 +1,0 @@
-// The reader of the trailing records, for those who check images.
-pub use record_reader::first;
