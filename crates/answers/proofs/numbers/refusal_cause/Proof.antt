@@ -10,6 +10,9 @@ enum-known-refusal c = search needs
 number-requires : tie.Need-number-requires
 number-requires c κs = search needs
 
+cast-result : tie.Need-cast-result
+cast-result c = search needs
+
 enum-told : tie.Need-enum-told
 enum-told c = search needs
 
@@ -69,6 +72,7 @@ refusal-cause-spec =
     (tie.spec
     enum-known-refusal
     number-requires
+    cast-result
     enum-told
     enum-told-2
     enum-told-3
