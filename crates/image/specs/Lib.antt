@@ -4,3 +4,4 @@ pub use Rattle.causes.specs.Check
 pub use Rattle.causes.specs.Image
 pub use Rattle.causes.specs.Edges
 pub use Rattle.causes.specs.Theorem
+pub mod DigestLaws
