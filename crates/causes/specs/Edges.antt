@@ -1,5 +1,5 @@
--- Document 01, "Edges to try": the starred edges of the image, by computing. The digest comes after `structure`, so a row says which cause from
--- 1 to 4 is met, or what passes to the digest: how many bytes it covers, and where it stands.
+-- Document 01, "Edges to try": the starred edges of the image, by computing. The digest comes after `structure`, so a row says
+-- which cause from 1 to 4 is met, or what passes to the digest: how many bytes it covers, and where it stands.
 use mathlib.Core.Path.{_≡_, refl}
 use mathlib.Core.List.{List, [], _∷_, _++_, map}
 use Prim.Native.Nat.{ℕ}
@@ -50,5 +50,6 @@ edges =
     ∷ []
 
 pub edges-hold : map (λ (e : Edge). structure (e .bytes)) edges ≡ map (λ (e : Edge). e .comes-to) edges
-unfolding edges header digest empty body part little field headerMagic recordsSize headerSize bodySize coveredSize imageSize recordAt stepAt after recordOf firstThen splitIn records digests sizes head oneDigest filled layoutOf withSizes structure
+unfolding edges header digest empty body part little field headerMagic recordsSize headerSize bodySize coveredSize imageSize
+    recordAt stepAt after recordOf firstThen splitIn records digests sizes head oneDigest filled layoutOf withSizes structure
 edges-hold = refl

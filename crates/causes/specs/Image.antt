@@ -24,9 +24,9 @@ laid [] = []
 laid (r ∷ rs) = laidOne r ++ laid rs
 
 -- every record's length says how many bytes it has
-pub data Told : List Trailing → Type 0 where
-  none : Told []
-  more : {r : Trailing} {rs : List Trailing} → little (r .low ∷ r .high ∷ []) ≡ length (r .bytes) → Told rs → Told (r ∷ rs)
+pub data Lengths : List Trailing → Type 0 where
+  none : Lengths []
+  more : {r : Trailing} {rs : List Trailing} → little (r .low ∷ r .high ∷ []) ≡ length (r .bytes) → Lengths rs → Lengths (r ∷ rs)
 
 -- the records of a type
 unfoldable pub ofType : ℕ → List Trailing → List Trailing
@@ -35,8 +35,8 @@ ofType k (r ∷ rs) = pick (eqb (r .kind) k) (r ∷ ofType k rs) (ofType k rs)
 
 -- ---- an image
 
--- There are a header, a body, records, and a rest of the bytes lent, one after the other; the header begins with the magic word and says the
--- three sizes; and there is exactly one record of type 1, whose 32 bytes are the SHA-256 of header and body.
+-- There are a header, a body, records, and a rest of the bytes lent, one after the other; the header begins with the magic
+-- word and says the three sizes; and there is exactly one record of type 1, whose 32 bytes are the SHA-256 of header and body.
 pub record Image (xs : List ℕ) : Type 0 where
   pub header : List ℕ
   pub body : List ℕ
@@ -48,7 +48,7 @@ pub record Image (xs : List ℕ) : Type 0 where
   pub header-size : headerSize header ≡ length header
   pub body-size : bodySize header ≡ length body
   pub records-size : recordsSize header ≡ length (laid trailing)
-  pub lengths : Told trailing
+  pub lengths : Lengths trailing
   pub digest : Trailing
   pub only-one : ofType 1 trailing ≡ digest ∷ []
   pub of-32-bytes : length (digest .bytes) ≡ 32
@@ -66,7 +66,7 @@ pub record GoodHeader (xs : List ℕ) : Type 0 where
 -- some records fill an area exactly
 pub record Fills (area : List ℕ) (rs : List Trailing) : Type 0 where
   pub exactly : area ≡ laid rs
-  pub lengths : Told rs
+  pub lengths : Lengths rs
 
 -- exactly one record of type 1, and its length is 32
 pub record OneDigest (rs : List Trailing) (d : Trailing) : Type 0 where

@@ -11,7 +11,7 @@ use Rattle.spans.specs.Bytes.{part}
 use Rattle.fields.specs.Fields.{little, field}
 use Rattle.records.specs.Records.{Trailing, Split, Place, stepAt, after, recordOf, firstThen, splitIn, records, digests}
 use Rattle.records.specs.RecordLaws.{Stands, stands, step-record, records-step, record-sized}
-use Rattle.causes.specs.Image.{laidOne, laid, Told, ofType}
+use Rattle.causes.specs.Image.{laidOne, laid, Lengths, ofType}
 use Rattle.records.specs.declared.Step.{Step}
 use Rattle.records.specs.declared.Step.the-variants.{End, Stump, Record}
 
@@ -37,28 +37,28 @@ first-told (a ∷ b ∷ c ∷ d ∷ xs) size h = refl
 
 pub record Begins (xs : List ℕ) (s : Split) : Type 0 where
   pub whole : laid (s .found) ++ s .over ≡ xs
-  pub lengths : Told (s .found)
+  pub lengths : Lengths (s .found)
 
 begins-first : (xs : List ℕ) (rest : Split) (s : Step) → Stands xs 0 s → Begins (drop (after s) xs) rest → Begins xs (firstThen s xs rest)
 unfolding firstThen after laid
-begins-first xs rest End (Stands.ends h) b = record { whole = sym (none-left xs h); lengths = Told.none }
+begins-first xs rest End (Stands.ends h) b = record { whole = sym (none-left xs h); lengths = Lengths.none }
   where
     none-left : (ys : List ℕ) → length ys ≤ 0 → ys ≡ []
     none-left [] h = refl
     none-left (y ∷ ys) h = absurd (omega arith)
-begins-first xs rest Stump w b = record { whole = refl; lengths = Told.none }
+begins-first xs rest Stump w b = record { whole = refl; lengths = Lengths.none }
 begins-first xs rest (Record kind start size) (Stands.whole w) b =
     let four : start ≡ 4 = w .start-is in
     let h : 4 + size ≤ length xs = omega arith in
     let joined : laid (rest .found) ++ rest .over ≡ drop (4 + size) xs = rw four at (b .whole) in
     record {
       whole = rw (append-assoc, joined) (first-laid xs size h);
-      lengths = Told.more (first-told xs size h ∙ (sym (w .size-is) ∙ sym (record-sized xs kind start size w))) (b .lengths);
+      lengths = Lengths.more (first-told xs size h ∙ (sym (w .size-is) ∙ sym (record-sized xs kind start size w))) (b .lengths);
     }
 
 begins-in : (n : ℕ) (xs : List ℕ) → Begins xs (splitIn n xs)
 unfolding splitIn laid
-begins-in zero xs = record { whole = refl; lengths = Told.none }
+begins-in zero xs = record { whole = refl; lengths = Lengths.none }
 begins-in (suc n) xs = begins-first xs _ (stepAt xs 0) (stands xs 0) (begins-in n (drop (after (stepAt xs 0)) xs))
 
 pub begins : (xs : List ℕ) → Begins xs (records xs)
@@ -85,10 +85,10 @@ module _ (r : Trailing) (ys : List ℕ) (told : little (r .low ∷ r .high ∷ [
   unfolding laidOne
   laid-rest = rw (← drop-drop (length (r .bytes)) 4 (laidOne r ++ ys)) (drop-append-seam (r .bytes) ys)
 
-pub as-laid : (rs : List Trailing) → Told rs → records (laid rs) ≡ record { found = rs; over = [] }
+pub as-laid : (rs : List Trailing) → Lengths rs → records (laid rs) ≡ record { found = rs; over = [] }
 unfolding records splitIn laid firstThen after
-as-laid [] Told.none = refl
-as-laid (r ∷ rs) (Told.more e t) =
+as-laid [] Lengths.none = refl
+as-laid (r ∷ rs) (Lengths.more e t) =
     records-step (laidOne r ++ laid rs) ∙ rw (laid-step r (laid rs) e, laid-of r (laid rs) e, laid-rest r (laid rs) e, as-laid rs t)
 
 -- ---- where the records of type 1 stand
@@ -114,7 +114,8 @@ holds before r ys =
       bytes-are = rw drop-append-add (take-append-seam (r .bytes) ys);
     }
 
-placed-first : (before : List ℕ) (r : Trailing) (rs : List Trailing) (zs : List ℕ) (at : ℕ) → length before ≡ at → (t : Bool) → eqb (r .kind) 1 ≡ t
+placed-first : (before : List ℕ) (r : Trailing) (rs : List Trailing) (zs : List ℕ) (at : ℕ) → length before ≡ at
+    → (t : Bool) → eqb (r .kind) 1 ≡ t
     → Placed (before ++ (laidOne r ++ zs)) (digests (at + (4 + length (r .bytes))) rs) (ofType 1 rs)
     → Placed (before ++ (laidOne r ++ zs)) (digests at (r ∷ rs)) (ofType 1 (r ∷ rs))
 unfolding digests ofType

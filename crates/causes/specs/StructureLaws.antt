@@ -46,7 +46,12 @@ heads xs = ⊎-elim (λ h. rw (head-short xs h) (Heads.fewer h)) lent (less (len
     fits : 32 ≤ length xs → headerMagic xs ≡ magicNumber → 32 ≤ headerSize xs → imageSize xs ≤ length xs → Heads xs (head xs)
     fits l m h k =
         rw (head-known xs l m, sizes-good xs h k)
-        (Heads.good (record { good = record { lent = l; magic = m; header = h; fits = k }; header-is = refl; body-is = refl; records-are = refl }))
+        (Heads.good (record {
+          good = record { lent = l; magic = m; header = h; fits = k };
+          header-is = refl;
+          body-is = refl;
+          records-are = refl;
+        }))
 
     long : 32 ≤ length xs → headerMagic xs ≡ magicNumber → 32 ≤ headerSize xs → Heads xs (head xs)
     long l m h =
@@ -73,7 +78,7 @@ sizes-of xs header body size e = opened (rw e at (heads xs))
 
 -- ---- the records
 
-pub record Stands (xs : List ℕ) (at : ℕ) (d : Trailing) : Type 0 where
+pub record DigestStands (xs : List ℕ) (at : ℕ) (d : Trailing) : Type 0 where
   pub within : at + 32 ≤ length xs
   pub bytes-are : part xs at 32 ≡ d .bytes
 
@@ -81,7 +86,7 @@ pub record Stands (xs : List ℕ) (at : ℕ) (d : Trailing) : Type 0 where
 pub data Comes (xs : List ℕ) (area : List ℕ) (covered : ℕ) : Layout → Type 0 where
   not-filled : ((rs : List Trailing) → Fills area rs → ⊥) → Comes xs area covered (Wrong RecordsArea)
   not-one : (rs : List Trailing) → Fills area rs → ((d : Trailing) → OneDigest rs d → ⊥) → Comes xs area covered (Wrong DigestRecord)
-  sound : {at : ℕ} → (rs : List Trailing) → Fills area rs → (d : Trailing) → OneDigest rs d → Stands xs at d → Comes xs area covered
+  sound : {at : ℕ} → (rs : List Trailing) → Fills area rs → (d : Trailing) → OneDigest rs d → DigestStands xs at d → Comes xs area covered
       (Sound covered at)
 
 as-many : (xs : List ℕ) (ps : List Place) (ds : List Trailing) → Placed xs ps ds → length ps ≡ length ds
@@ -89,7 +94,8 @@ as-many xs [] [] Placed.none = refl
 as-many xs (p ∷ ps) (d ∷ ds) (Placed.more h w) = ap suc (as-many xs ps ds w)
 
 -- the records of type 1 and their places, counted
-one-of : (xs area : List ℕ) (covered : ℕ) (rs : List Trailing) → Fills area rs → (ps : List Place) (ds : List Trailing) → ofType 1 rs ≡ ds → Placed xs ps ds
+one-of : (xs area : List ℕ) (covered : ℕ) (rs : List Trailing) → Fills area rs → (ps : List Place) (ds : List Trailing)
+    → ofType 1 rs ≡ ds → Placed xs ps ds
     → Comes xs area covered (oneDigest covered ps)
 unfolding oneDigest
 one-of xs area covered rs f [] [] e w = Comes.not-one rs f (λ d o. let k = o .only-one in let z : _≡_ {A = ℕ} 0 1 = cc in omega arith)
@@ -117,7 +123,8 @@ one-of xs area covered rs f (p ∷ q ∷ ps) (d ∷ c ∷ ds) e w =
     Comes.not-one rs f (λ b o. let k = o .only-one in let z : _≡_ {A = ℕ} 0 1 = cc in omega arith)
 
 -- the area's records, with bytes before it and behind it
-module _ (xs area : List ℕ) (covered : ℕ) (before behind : List ℕ) (split : xs ≡ before ++ (area ++ behind)) (long : length before ≡ covered) where
+module _ (xs area : List ℕ) (covered : ℕ) (before behind : List ℕ) (split : xs ≡ before ++ (area ++ behind))
+    (long : length before ≡ covered) where
   comes-over : (s : Split) → records area ≡ s → Begins area s → (over : List ℕ) → s .over ≡ over
       → Comes xs area covered (filled covered (digests covered (s .found)) over)
   unfolding filled

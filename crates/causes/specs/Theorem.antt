@@ -1,4 +1,5 @@
--- The check accepts exactly the images, and gives each cause exactly when it is due: of the answers, one and only one is due, and it is given.
+-- The check accepts exactly the images, and gives each cause exactly when it is due: of the answers, one and only one is due,
+-- and it is given.
 use mathlib.Core.Path.{_≡_, refl, sym, ap, _∙_}
 use mathlib.Core.List.{List, [], _∷_, _++_, append-assoc}
 use mathlib.Core.Bool.{Bool, true, false}
@@ -19,7 +20,7 @@ use Rattle.causes.specs.Image.{laid, ofType, Image, GoodHeader, Fills, O
 use Rattle.causes.specs.LaidLaws.{as-laid}
 use Rattle.records.specs.RecordLaws.{less}
 use Rattle.causes.specs.CheckLaws.{sizes-small, sizes-above, head-short, head-other, head-known, digest-same, digest-other}
-use Rattle.causes.specs.StructureLaws.{Heads, heads, Comes, Stands, comes, cut, structure-bad}
+use Rattle.causes.specs.StructureLaws.{Heads, heads, Comes, DigestStands, comes, cut, structure-bad}
 use Rattle.causes.specs.declared.Cause.{Cause}
 use Rattle.causes.specs.declared.Cause.the-variants.{HeaderMagic, HeaderSizes, RecordsArea, DigestRecord, DigestDiffers}
 use Rattle.causes.specs.declared.Header.{Header}
@@ -110,7 +111,7 @@ module _ (xs : List ℕ) where
 
   module _ (g : GoodHeader xs) where
     digest-of : (covered at : ℕ) → covered ≡ coveredSize xs → (rs : List Trailing) → Fills (recordsArea xs) rs →
-        (d : Trailing) → OneDigest rs d → Stands xs at d
+        (d : Trailing) → OneDigest rs d → DigestStands xs at d
         → (t : Bool) → same (part xs at 32) (sha256 (take covered xs)) ≡ t → When xs (digestAt (Sound covered at) xs)
     digest-of covered at c rs f d o s true e =
         let right : d .bytes ≡ sha256 (take (coveredSize xs) xs) = sym (s .bytes-are) ∙ (same-eq _ _ e ∙ ap (λ (n : ℕ). sha256

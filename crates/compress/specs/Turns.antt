@@ -16,6 +16,12 @@ unfoldable pub eightTurns : List ℕ → Eight → ℕ → Eight
 eightTurns W v t =
     turn W (turn W (turn W (turn W (turn W (turn W (turn W (turn W v t) (t + 1)) (t + 2)) (t + 3)) (t + 4)) (t + 5)) (t + 6)) (t + 7)
 
+pub eight-of : (W : List ℕ) (t : ℕ) (v v₁ v₂ v₃ v₄ v₅ v₆ v₇ v₈ : Eight) → v₁ ≡ turn W v t → v₂ ≡ turn W v₁ (t + 1)
+    → v₃ ≡ turn W v₂ (t + 2) → v₄ ≡ turn W v₃ (t + 3) → v₅ ≡ turn W v₄ (t + 4) → v₆ ≡ turn W v₅ (t + 5)
+    → v₇ ≡ turn W v₆ (t + 6) → v₈ ≡ turn W v₇ (t + 7) → v₈ ≡ eightTurns W v t
+unfolding eightTurns
+eight-of W t v v₁ v₂ v₃ v₄ v₅ v₆ v₇ v₈ e₁ e₂ e₃ e₄ e₅ e₆ e₇ e₈ = cc
+
 pub rounds-none : (W : List ℕ) (v : Eight) → v ≡ rounds W v 0
 unfolding rounds
 rounds-none W v = refl

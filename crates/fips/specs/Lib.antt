@@ -1,2 +1,3 @@
 pub mod Fips
 pub mod Laws
+pub mod Writing

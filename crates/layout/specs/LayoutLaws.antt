@@ -18,7 +18,8 @@ use Rattle.causes.specs.declared.Layout.the-variants.{Wrong, Sound}
 unfoldable pub ofNumber : ℕ → ℕ → Layout
 ofNumber covered n = pick (eqb n 3) (Wrong RecordsArea) (pick (eqb n 4) (Wrong DigestRecord) (Sound covered n))
 
-several : (covered : ℕ) (ds : List Place) (n place size : ℕ) → 2 ≤ n → ofNumber covered (placeOrCause (counted ds n place size)) ≡ Wrong DigestRecord
+several : (covered : ℕ) (ds : List Place) (n place size : ℕ) → 2 ≤ n
+    → ofNumber covered (placeOrCause (counted ds n place size)) ≡ Wrong DigestRecord
 unfolding counted placeOrCause ofNumber
 several covered [] n place size h = let d : n ≡ 1 → ⊥ = λ e. omega arith in rw (ne-eqb n 1 d)
 several covered (d ∷ ds) n place size h = several covered ds (n + 1) (d .at) (d .size) (omega arith)
@@ -52,7 +53,8 @@ one covered (d ∷ []) (Beyond.more h b) = by (eqb (d .size) 32)
     by false = refl
 one covered (d ∷ e ∷ ds) b = several covered ds 2 (e .at) (e .size) (omega arith)
 
-overs : (covered : ℕ) (ds : List Place) (xs : List ℕ) → Beyond ds → ofNumber covered (placeOrCause (unlessOver xs (counted ds 0 0 0))) ≡ filled covered ds xs
+overs : (covered : ℕ) (ds : List Place) (xs : List ℕ) → Beyond ds
+    → ofNumber covered (placeOrCause (unlessOver xs (counted ds 0 0 0))) ≡ filled covered ds xs
 unfolding placeOrCause ofNumber unlessOver filled
 overs covered ds [] b = one covered ds b
 overs covered ds (x ∷ xs) b = refl

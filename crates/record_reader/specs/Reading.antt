@@ -27,7 +27,11 @@ pub record Reading : Type 0 where
 unfoldable pub readingBy : Step → List ℕ → Reading → Reading
 readingBy End xs later = record { told = []; last = End }
 readingBy Stump xs later = record { told = []; last = Stump }
-readingBy (Record kind start size) xs later = record { told = record { kind = kind; bytes = part xs start size } ∷ later .told; last = later .last }
+readingBy (Record kind start size) xs later = record {
+  told = record { kind = kind; bytes = part xs start size } ∷ later .told;
+  last =
+      later .last;
+}
 
 unfoldable pub readOn : ℕ → List ℕ → ℕ → Reading
 readOn zero xs at = record { told = []; last = stepAt xs at }

@@ -17,7 +17,8 @@ pub record Trailing : Type 0 where
   pub high : ℕ
   pub bytes : List ℕ
 
--- What stands at a place of an area: nothing more, a whole record (its type, where its bytes start, how many they are), or bytes that make none.
+-- What stands at a place of an area: nothing more, a whole record (its type, where its bytes start, how many they are), or bytes that
+-- make none.
 unfoldable pub recordAt : List ℕ → ℕ → ℕ → Step
 recordAt xs at size = pick (leb (at + 4 + size) (length xs)) (Record (getD xs at 0) (at + 4) size) Stump
 

@@ -6,7 +6,7 @@ use native.Mathlib.Omega.{arith}
 use lib.ListN.{length, drop, getD}
 use Rattle.records.specs.Records.{stepAt, after, firstThen, recordOf, records, digests}
 use Rattle.records.specs.RecordLaws.{whole-of, stump-of, records-step, record-sized, digests-one, digests-other}
-use Rattle.records.specs.Walk.{Walked, Short, Filled, counted, unlessOver, walked}
+use Rattle.records.specs.Walk.{Walked, Short, Filled, counted, unlessOver, walked, placeOrCause}
 use Rattle.records.specs.declared.Step.the-variants.{End, Stump, Record}
 
 over : (xs : List ℕ) (w : Walked) → 0 < length xs → unlessOver xs w ≡ Short
@@ -23,7 +23,7 @@ module _ (xs : List ℕ) (at n place size : ℕ) where
   unfolding walked firstThen
   walk-stump e = rw (records-step xs, e) (over xs _ (stump-of xs 0 e))
 
-  pub walk-digest : (start size' : ℕ) → stepAt xs 0 ≡ Record 1 start size'
+  walk-digest : (start size' : ℕ) → stepAt xs 0 ≡ Record 1 start size'
       → walked (records xs) at n place size ≡ walked (records (drop (start + size') xs)) (at + (start + size')) (n + 1) (at + start) size'
   unfolding walked firstThen after recordOf counted
   walk-digest start size' e =
@@ -37,7 +37,7 @@ module _ (xs : List ℕ) (at n place size : ℕ) where
         four,
       )
 
-  pub walk-other : (kind start size' : ℕ) → (kind ≡ 1 → ⊥) → stepAt xs 0 ≡ Record kind start size'
+  walk-other : (kind start size' : ℕ) → (kind ≡ 1 → ⊥) → stepAt xs 0 ≡ Record kind start size'
       → walked (records xs) at n place size ≡ walked (records (drop (start + size') xs)) (at + (start + size')) n place size
   unfolding walked firstThen after recordOf
   walk-other kind start size' d e =
@@ -51,3 +51,15 @@ module _ (xs : List ℕ) (at n place size : ℕ) where
             (record-sized xs kind start size' w) other,
         four,
       )
+
+-- a step of the walk, with what the call on the rest of the area answers
+module _ (xs rest : List ℕ) (at n place size start size' r : ℕ) (rest-is : rest ≡ drop (start + size') xs) where
+  pub on-digest : stepAt xs 0 ≡ Record 1 start size'
+      → r ≡ placeOrCause (walked (records rest) (at + (start + size')) (n + 1) (at + start) size')
+      → r ≡ placeOrCause (walked (records xs) at n place size)
+  on-digest e a = rw (walk-digest xs at n place size start size' e, ← rest-is) a
+
+  pub on-other : (kind : ℕ) → (kind ≡ 1 → ⊥) → stepAt xs 0 ≡ Record kind start size'
+      → r ≡ placeOrCause (walked (records rest) (at + (start + size')) n place size)
+      → r ≡ placeOrCause (walked (records xs) at n place size)
+  on-other kind d e a = rw (walk-other xs at n place size kind start size' d e, ← rest-is) a

@@ -1,11 +1,12 @@
 // The trailing records: what stands at a place of their area, and the walk over all of them.
 ghost use mathlib.Core.Path.{_≡_};
-ghost use Prim.Native.Nat.{ℕ, _+_, _^_, _<_, _≤_};
+ghost use Prim.Native.Nat.{_+_, _^_, _<_, _≤_};
 ghost use lib.ListN.{length};
 ghost use Rattle.records.specs.Records.{stepAt, records};
 ghost use Rattle.records.specs.Walk.{Walked, walked, placeOrCause};
 
-// What stands at a place of an area of records: nothing more, bytes that make no whole record, or a record, whose size bytes begin at start.
+// What stands at a place of an area of records: nothing more, bytes that make no whole record, or a record, whose size bytes begin
+// at start.
 pub enum Step {
     End,
     Stump,

@@ -12,6 +12,13 @@ use Rattle.fips.specs.Fips.{next, upto, schedule}
 unfoldable pub grown : List ℕ → ℕ → List ℕ
 grown W t = set W t (next W t)
 
+-- four words stored one after the other, as the code stores them
+pub four-grown : (W₀ : List ℕ) (t a b c d : ℕ) → a ≡ next W₀ t → b ≡ next (set W₀ t a) (t + 1)
+    → c ≡ next (set (set W₀ t a) (t + 1) b) (t + 2) → d ≡ next (set (set (set W₀ t a) (t + 1) b) (t + 2) c) (t + 3)
+    → set (set (set (set W₀ t a) (t + 1) b) (t + 2) c) (t + 3) d ≡ grown (grown (grown (grown W₀ t) (t + 1)) (t + 2)) (t + 3)
+unfolding grown
+four-grown W₀ t a b c d p q r s = cc
+
 -- the array W began as W₀, and has its first t words
 pub record Filling (W₀ W : List ℕ) (t : ℕ) : Type 0 where
   pub long : length W ≡ 64

@@ -10,7 +10,8 @@ use lib.Seq.{drop-drop, take-append-le}
 use Rattle.spans.specs.Runs.{drop-take}
 use Rattle.spans.specs.Words.{words, bytesOf}
 use Rattle.spans.specs.WordLaws.{words-take}
-use Rattle.fips.specs.Fips.{Eight, M, zeros, pad, H₀, compress, hash}
+use Rattle.fips.specs.Fips.{Eight, M, zeros, pad, H₀, compress, hash, result, sha256}
+use Rattle.padding.specs.Padding.{Ending}
 
 -- one more block
 pub hash-next : (H : Eight) (p : List ℕ) (i : ℕ) (v r : Eight) → v ≡ hash H p i
@@ -44,7 +45,7 @@ hash-same H p q n e =
     sym (hash-take H p n (64 * n) l) ∙ ap (λ (x : List ℕ). hash H x n) e ∙ hash-take H q n (64 * n) l
 
 -- the message's own blocks, then those of its end
-pub hash-pad : (m tail : List ℕ) (full count : ℕ) → 64 * full ≤ length m → length (pad m) ≡ 64 * full + 64 * count
+hash-pad : (m tail : List ℕ) (full count : ℕ) → 64 * full ≤ length m → length (pad m) ≡ 64 * full + 64 * count
     → take (64 * count) tail ≡ drop (64 * full) (pad m) → hash (hash H₀ m full) tail count ≡ hash H₀ (pad m) (length (pad m) / 64)
 unfolding pad
 hash-pad m tail full count h l e =
@@ -56,3 +57,12 @@ hash-pad m tail full count h l e =
     sym (hash-take (hash H₀ m full) tail count (64 * count) (omega arith)) ∙ ap (λ (t : List ℕ). hash (hash H₀ m full) t count) e
     ∙ ap (λ (v : Eight). hash v (drop (64 * full) (pad m)) count) (hash-same H₀ m (pad m) full front)
     ∙ sym (hash-split H₀ (pad m) full count) ∙ ap (hash H₀ (pad m)) n
+
+-- the digest, as the code goes: the message's own blocks, the last ones, the result
+pub digest-of : (m tail : List ℕ) (full count : ℕ) (first body last : Eight) (out : List ℕ) → 64 * full ≤ length m
+    → Ending m (64 * full) count tail → first ≡ H₀ → body ≡ hash first m full → last ≡ hash body tail count → out ≡ result last
+    → out ≡ sha256 m
+unfolding sha256
+digest-of m tail full count first body last out h e p q r s =
+    s ∙ ap result (r ∙ ap (λ (v : Eight). hash v tail count) (q ∙ ap (λ (v : Eight). hash v m full) p)
+    ∙ hash-pad m tail full count h (e .whole) (e .is))

@@ -22,10 +22,10 @@ eight-turns-requires : tie.Need-eight-turns-requires Inv-loop μ-loop
 eight-turns-requires c κs = search needs
 
 add-t : tie.Need-add-t Inv-loop μ-loop
-add-t c = search needs
+add-t c = omega arith
 
 loop-less : tie.Need-loop-less Inv-loop μ-loop
-loop-less c = search needs
+loop-less c = omega arith
 
 loop-again : tie.Need-loop-again Inv-loop μ-loop
 loop-again c =

@@ -1,26 +1,35 @@
 use Rattle.compress.specs.Turns.{turn}
-use borrow.Author.Needs.{needs}
+use mathlib.Core.Path.{ap, _∙_}
+use mathlib.Core.List.{List}
+use Prim.Native.Nat.{ℕ}
+use lib.ListN.{getD}
+use Rattle.fips.specs.Fips.{round}
+use Rattle.turn.specs.Variables.{eight}
+use native.Mathlib.Omega.{arith}
 use Rattle.compress.proofs.turn_at.Statement.{statement}
 use Rattle.compress.proofs.turn_at.Tie as tie
 
 mul-one : tie.Need-mul-one
-mul-one c = search needs
+mul-one c = omega arith
 
 element-copy-out-one : tie.Need-element-copy-out-one
-element-copy-out-one c = search needs
+element-copy-out-one c = omega arith
 
 mul-one-2 : tie.Need-mul-one-2
-mul-one-2 c = search needs
+mul-one-2 c = omega arith
 
 element-copy-out-one-2 : tie.Need-element-copy-out-one-2
-element-copy-out-one-2 c = search needs
+element-copy-out-one-2 c = omega arith
 
 one-requires : tie.Need-one-requires
-one-requires c κs = search needs
+one-requires c κs = tt
 
 returns : tie.Need-returns
 unfolding turn
-returns c = cc
+returns c =
+    let s = c .before .before .before in
+    let a = s .args in
+    c .one .ensures ∙ ap (λ (k : List ℕ). round (eight (a .v)) (getD k (a .t) 0) (getD (a .w .now) (a .t) 0)) (s .pre .1)
 
 pub turn-at-spec : {M : Type 1} → statement M
 turn-at-spec =

@@ -1,41 +1,38 @@
-use native.Mathlib.Nat.{div-one}
 use native.Mathlib.Omega.{arith}
 use lib.ListN.{length-set}
-use Rattle.spans.specs.Words.{bytesOf}
-use Rattle.spans.specs.Runs.{put-four}
-use borrow.Author.Needs.{needs}
+use Rattle.fips.specs.Writing.{put-word}
 use Rattle.fips.proofs.put_word.Statement.{statement}
 use Rattle.fips.proofs.put_word.Tie as tie
 
 low-requires : tie.Need-low-requires
-low-requires c κs = search needs
+low-requires c κs = tt
 
 slice-write-area : tie.Need-slice-write-area
-slice-write-area c = search needs
+slice-write-area c = omega arith
 
 low-requires-2 : tie.Need-low-requires-2
-low-requires-2 c κs = search needs
+low-requires-2 c κs = tt
 
 add-area : tie.Need-add-area
-add-area c = search needs
+add-area c = omega arith
 
 slice-write-area-2 : tie.Need-slice-write-area-2
 slice-write-area-2 c = simp length-set (omega arith)
 
 low-requires-3 : tie.Need-low-requires-3
-low-requires-3 c κs = search needs
+low-requires-3 c κs = tt
 
 add-area-2 : tie.Need-add-area-2
-add-area-2 c = search needs
+add-area-2 c = omega arith
 
 slice-write-area-3 : tie.Need-slice-write-area-3
 slice-write-area-3 c = simp length-set (omega arith)
 
 low-requires-4 : tie.Need-low-requires-4
-low-requires-4 c κs = search needs
+low-requires-4 c κs = tt
 
 add-area-3 : tie.Need-add-area-3
-add-area-3 c = search needs
+add-area-3 c = omega arith
 
 slice-write-area-4 : tie.Need-slice-write-area-4
 slice-write-area-4 c = simp length-set (omega arith)
@@ -44,10 +41,9 @@ same-length : tie.Need-same-length
 same-length c = simp length-set
 
 returns : tie.Need-returns
-unfolding bytesOf
 returns c =
-    let a = c .before .before .before .before .before .args in
-    cc (put-four (a .area .now) (a .at) _ _ _ _, div-one (a .x))
+    put-word _ _ _ _ _ _ _ (c .before .before .before .low .ensures) (c .before .before .low2 .ensures) (c .before .low3 .ensures)
+    (c .low4 .ensures)
 
 pub put-word-spec : {M : Type 1} → statement M
 put-word-spec =

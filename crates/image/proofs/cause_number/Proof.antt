@@ -1,20 +1,20 @@
 use mathlib.Core.Path.{sym, ap, _∙_}
 use Rattle.causes.specs.Check.{causeOf}
-use borrow.Author.Needs.{needs}
+use native.Mathlib.Omega.{arith}
 use Rattle.image.proofs.cause_number.Statement.{statement}
 use Rattle.image.proofs.cause_number.Tie as tie
 
 check-requires : tie.Need-check-requires
-check-requires c κs = search needs
+check-requires c κs = tt
 
 enum-told : tie.Need-enum-told
-enum-told c = search needs
+enum-told c = omega arith
 
 enum-known-cause : tie.Need-enum-known-cause
-enum-known-cause c = search needs
+enum-known-cause c = omega arith
 
 number-requires : tie.Need-number-requires
-number-requires c κs = search needs
+number-requires c κs = tt
 
 returns : tie.Need-returns
 unfolding causeOf

@@ -1,18 +1,18 @@
 use mathlib.Core.Path.{sym, _∙_}
 use Rattle.causes.specs.Check.{check, digestAt}
 use Rattle.causes.specs.StructureLaws.{sound-within}
-use borrow.Author.Needs.{needs}
+use native.Mathlib.Omega.{arith}
 use Rattle.image.proofs.check.Statement.{statement}
 use Rattle.image.proofs.check.Tie as tie
 
 structure-requires : tie.Need-structure-requires
-structure-requires c κs = search needs
+structure-requires c κs = tt
 
 enum-known-cause : tie.Need-enum-known-cause
-enum-known-cause c = search needs
+enum-known-cause c = omega arith
 
 enum-known-covered : tie.Need-enum-known-covered
-enum-known-covered c = search needs
+enum-known-covered c = omega arith
 
 digest-at-requires : tie.Need-digest-at-requires
 digest-at-requires c κs =

@@ -4,17 +4,18 @@ use borrow.Author.Tests.{eq-eqb, ne-eqb}
 use Rattle.records.specs.Records.{records}
 use Rattle.causes.specs.Check.{layoutOf}
 use Rattle.layout.specs.LayoutLaws.{ofNumber, layout-walked}
-use borrow.Author.Needs.{needs}
 use Rattle.layout.proofs.layout_of.Statement.{statement}
 use Rattle.layout.proofs.layout_of.Tie as tie
 
 digest-place-requires : tie.Need-digest-place-requires
-digest-place-requires c κs = search needs
+digest-place-requires c κs = omega arith
 
 -- the walk's number says what the records come to
 told : (c : tie.After-digest-place) → layoutOf (c .before .before .args .covered) (records (c .before .before .args .area .now))
     ≡ ofNumber (c .before .before .args .covered) (c .digest-place .result)
-told c = rw (c .digest-place .ensures) (sym (layout-walked (c .before .before .args .covered) (records (c .before .before .args .area .now)) (omega arith)))
+told c =
+    let a = c .before .before .args in
+    rw (c .digest-place .ensures) (sym (layout-walked (a .covered) (records (a .area .now)) (omega arith)))
 
 returns : tie.Need-returns
 unfolding ofNumber

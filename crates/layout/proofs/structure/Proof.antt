@@ -1,13 +1,15 @@
-use mathlib.Core.Path.{_≡_, sym, _∙_}
+use mathlib.Core.Path.{_≡_, sym, ap, _∙_}
+use mathlib.Core.List.{List}
 use native.Mathlib.Omega.{arith}
-use Prim.Native.Nat.{_+_}
+use Prim.Native.Nat.{ℕ, _+_}
 use lib.ListN.{length}
 use Rattle.spans.specs.Bytes.{part}
 use Rattle.spans.specs.Laws.{length-part}
 use Rattle.causes.specs.Header.{coveredSize, imageSize}
+use Rattle.records.specs.Records.{records}
+use Rattle.causes.specs.Check.{layoutOf}
 use Rattle.causes.specs.CheckLaws.{part-is}
 use Rattle.causes.specs.StructureLaws.{Sizes, sizes-of, structure-bad, structure-good}
-use borrow.Author.Needs.{needs}
 use Rattle.layout.proofs.structure.Statement.{statement}
 use Rattle.layout.proofs.structure.Tie as tie
 
@@ -18,13 +20,13 @@ sized : (c : tie.After-known-told2)
 sized c = sizes-of _ _ _ _ (sym (c .before .before .before .head .ensures) ∙ c .before .header .given .1)
 
 head-requires : tie.Need-head-requires
-head-requires c κs = search needs
+head-requires c κs = tt
 
 enum-known-cause : tie.Need-enum-known-cause
-enum-known-cause c = search needs
+enum-known-cause c = omega arith
 
 enum-known-header : tie.Need-enum-known-header
-enum-known-header c = search needs
+enum-known-header c = omega arith
 
 add-covered : tie.Need-add-covered
 unfolding imageSize coveredSize
@@ -35,10 +37,10 @@ unfolding imageSize coveredSize
 add-end c = let s = sized c in let f = s .good .fits in omega arith
 
 sub-layout-of : tie.Need-sub-layout-of
-sub-layout-of c = search needs
+sub-layout-of c = omega arith
 
 part-layout-of-start : tie.Need-part-layout-of-start
-part-layout-of-start c = search needs
+part-layout-of-start c = omega arith
 
 part-layout-of-end : tie.Need-part-layout-of-end
 unfolding imageSize coveredSize
@@ -65,8 +67,10 @@ returns-2 c =
     let a = c .before .before .before .before .before .before .before .args in
     let g = c .before .before .before .header .given in
     let e = sym (c .before .before .before .before .before .head .ensures) ∙ g .1 in
-    let p = part-is (a .image .now) (g .0 .0 + g .0 .1 .0) (g .0 .1 .1 .0) in
-    cc (c .layout-of .ensures, structure-good (a .image .now) (g .0 .0) (g .0 .1 .0) (g .0 .1 .1 .0) e, p)
+    c .layout-of .ensures
+    ∙ ap (λ (area : List ℕ). layoutOf (g .0 .0 + g .0 .1 .0) (records area))
+    (part-is (a .image .now) (g .0 .0 + g .0 .1 .0) (g .0 .1 .1 .0))
+    ∙ sym (structure-good (a .image .now) (g .0 .0) (g .0 .1 .0) (g .0 .1 .1 .0) e)
 
 pub structure-spec : {M : Type 1} → statement M
 structure-spec =

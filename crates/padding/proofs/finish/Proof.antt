@@ -3,27 +3,26 @@ use native.Mathlib.Omega.{arith}
 use lib.ListN.{length, length-set}
 use Rattle.spans.specs.Laws.{length-put}
 use Rattle.padding.specs.Padding.{ending-of}
-use borrow.Author.Needs.{needs}
 use Rattle.padding.proofs.finish.Statement.{statement}
 use Rattle.padding.proofs.finish.Tie as tie
 
 sub-rest : tie.Need-sub-rest
-sub-rest c = search needs
+sub-rest c = omega arith
 
 add-count : tie.Need-add-count
-add-count c = search needs
+add-count c = omega arith
 
 copy-requires : tie.Need-copy-requires
-copy-requires c κs = search needs
+copy-requires c κs = tt
 
 slice-write-tail : tie.Need-slice-write-tail
 slice-write-tail c = omega (arith, ap length (c .before .before .before .before .before .before .pre .1))
 
 mul-put-length : tie.Need-mul-put-length
-mul-put-length c = search needs
+mul-put-length c = omega arith
 
 sub-put-length : tie.Need-sub-put-length
-sub-put-length c = search needs
+sub-put-length c = omega arith
 
 put-length-requires : tie.Need-put-length-requires
 put-length-requires c κs = simp length-set (omega (arith, ap length (c .before .before .before .before .before .before .before .pre .1)))

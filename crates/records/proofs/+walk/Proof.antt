@@ -4,9 +4,8 @@ use lib.ListN.{length}
 use Rattle.records.specs.Records.{stepAt}
 use Rattle.records.specs.RecordLaws.{Whole, whole-of, rest-is, length-rest}
 use Rattle.records.specs.Walk.{placeOrCause}
-use Rattle.records.specs.WalkLaws.{walk-end, walk-stump, walk-digest, walk-other}
+use Rattle.records.specs.WalkLaws.{walk-end, walk-stump, on-digest, on-other}
 use Rattle.records.specs.declared.Step.the-variants.{End, Stump, Record}
-use borrow.Author.Needs.{needs}
 use Prim.Native.Nat.{ℕ, _+_, _<_}
 use borrow.Fn.Kinds.{In}
 use borrow.Fn.PlainCycle.{Measures, is, falls, and}
@@ -43,19 +42,19 @@ found : (t : ℕ) (c : walk-lts.After-known-told (callees t) (walk-at t) walk.Po
 found t c = whole-of _ 0 _ _ _ (told t c)
 
 walk-step-at-requires : (t : ℕ) → walk-lts.Need-step-at-requires (callees t) (walk-at t) walk.Post
-walk-step-at-requires t c κs = search needs
+walk-step-at-requires t c κs = tt
 
 walk-enum-told : (t : ℕ) → walk-lts.Need-enum-told (callees t) (walk-at t) walk.Post
-walk-enum-told t c = search needs
+walk-enum-told t c = omega arith
 
 walk-only-digest-requires : (t : ℕ) → walk-lts.Need-only-digest-requires (callees t) (walk-at t) walk.Post
-walk-only-digest-requires t c κs = search needs
+walk-only-digest-requires t c κs = tt
 
 walk-enum-told-2 : (t : ℕ) → walk-lts.Need-enum-told-2 (callees t) (walk-at t) walk.Post
-walk-enum-told-2 t c = search needs
+walk-enum-told-2 t c = omega arith
 
 walk-enum-known-kind : (t : ℕ) → walk-lts.Need-enum-known-kind (callees t) (walk-at t) walk.Post
-walk-enum-known-kind t c = search needs
+walk-enum-known-kind t c = omega arith
 
 walk-add-next : (t : ℕ) → walk-lts.Need-add-next (callees t) (walk-at t) walk.Post
 walk-add-next t c = let w = found t c in omega arith
@@ -67,7 +66,7 @@ walk-part-area-start : (t : ℕ) → walk-lts.Need-part-area-start (callees t) (
 walk-part-area-start t c = let w = found t c in omega arith
 
 walk-part-area-end : (t : ℕ) → walk-lts.Need-part-area-end (callees t) (walk-at t) walk.Post
-walk-part-area-end t c = search needs
+walk-part-area-end t c = omega arith
 
 walk-add-walk : (t : ℕ) → walk-lts.Need-add-walk (callees t) (walk-at t) walk.Post
 walk-add-walk t c = let w = found t (c .before .before .before) in omega arith
@@ -120,22 +119,16 @@ walk-returns-3 t c =
     let g = c .before .before .before .before .before .kind .given .0 in
     let one : g .0 ≡ 1 = c .before .before .if1 .taken in
     let e : stepAt (a .area .now .now) 0 ≡ Record 1 (g .1 .0) (g .1 .1 .0) = rw one at (told t (c .before .before .before .before)) in
-    cc (
-      walk-digest (a .area .now .now) (a .at) (a .digests) (a .place) (a .size) (g .1 .0) (g .1 .1 .0) e,
-      rest-is (a .area .now .now)
-          (g .1 .0 + g .1 .1 .0),
-    )
+    on-digest (a .area .now .now) _ (a .at) (a .digests) (a .place) (a .size) (g .1 .0) (g .1 .1 .0) _
+    (rest-is (a .area .now .now) (g .1 .0 + g .1 .1 .0)) e (c .walk .ensures)
 
 walk-returns-4 : (t : ℕ) → walk-lts.Need-returns-4 (callees t) (walk-at t) walk.Post
 walk-returns-4 t c =
     let a = c .before .before .before .before .before .before .before .before .before .args in
     let g = c .before .before .before .before .before .kind .given .0 in
-    let e = told t (c .before .before .before .before) in
-    cc (
-      walk-other (a .area .now .now) (a .at) (a .digests) (a .place) (a .size) (g .0) (g .1 .0) (g .1 .1 .0)
-          (c .before .before .if1 .left) e,
-      rest-is (a .area .now .now) (g .1 .0 + g .1 .1 .0),
-    )
+    on-other (a .area .now .now) _ (a .at) (a .digests) (a .place) (a .size) (g .1 .0) (g .1 .1 .0) _
+    (rest-is (a .area .now .now) (g .1 .0 + g .1 .1 .0)) (g .0) (c .before .before .if1 .left) (told t (c .before .before .before .before))
+    (c .walk2 .ensures)
 
 pub +walk-spec : {M : Type 1} → statement M
 +walk-spec = close μ-walk λ t. walk-lts.spec (callees t)

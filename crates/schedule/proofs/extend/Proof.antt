@@ -2,7 +2,6 @@ use mathlib.Core.Path.{_≡_, refl}
 use Prim.Native.Nat.{_-_, _%_}
 use native.Mathlib.Omega.{arith}
 use Rattle.schedule.specs.Grown.{Filling, filling-none, filling-four, filled}
-use borrow.Author.Needs.{needs}
 use Rattle.schedule.proofs.extend.Statement.{statement}
 use Rattle.schedule.proofs.extend.Tie as tie
 
@@ -16,13 +15,13 @@ loop-holds : tie.Need-loop-holds Inv-loop μ-loop
 loop-holds c = (filling-none _ (c .pre), refl)
 
 four-words-requires : tie.Need-four-words-requires Inv-loop μ-loop
-four-words-requires c κs = search needs
+four-words-requires c κs = omega arith
 
 add-t : tie.Need-add-t Inv-loop μ-loop
-add-t c = search needs
+add-t c = omega arith
 
 loop-less : tie.Need-loop-less Inv-loop μ-loop
-loop-less c = search needs
+loop-less c = omega arith
 
 loop-again : tie.Need-loop-again Inv-loop μ-loop
 loop-again c = (filling-four (c .before .before .before .loop .inv .0) (omega arith) (c .four-words .ensures), omega arith)

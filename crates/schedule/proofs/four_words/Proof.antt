@@ -1,65 +1,68 @@
-use Rattle.schedule.specs.Grown.{grown}
-use borrow.Author.Needs.{needs}
+use Rattle.schedule.specs.Grown.{four-grown}
+use native.Mathlib.Omega.{arith}
 use Rattle.schedule.proofs.four_words.Statement.{statement}
 use Rattle.schedule.proofs.four_words.Tie as tie
 
 next-word-requires : tie.Need-next-word-requires
-next-word-requires c κs = search needs
+next-word-requires c κs = omega arith
 
 mul-w : tie.Need-mul-w
-mul-w c = search needs
+mul-w c = omega arith
 
 element-write-w : tie.Need-element-write-w
-element-write-w c = search needs
+element-write-w c = omega arith
 
 add-next-word : tie.Need-add-next-word
-add-next-word c = search needs
+add-next-word c = omega arith
 
 next-word-requires-2 : tie.Need-next-word-requires-2
-next-word-requires-2 c κs = search needs
+next-word-requires-2 c κs = omega arith
 
 add-w : tie.Need-add-w
-add-w c = search needs
+add-w c = omega arith
 
 mul-w-2 : tie.Need-mul-w-2
-mul-w-2 c = search needs
+mul-w-2 c = omega arith
 
 element-write-w-2 : tie.Need-element-write-w-2
-element-write-w-2 c = search needs
+element-write-w-2 c = omega arith
 
 add-next-word-2 : tie.Need-add-next-word-2
-add-next-word-2 c = search needs
+add-next-word-2 c = omega arith
 
 next-word-requires-3 : tie.Need-next-word-requires-3
-next-word-requires-3 c κs = search needs
+next-word-requires-3 c κs = omega arith
 
 add-w-2 : tie.Need-add-w-2
-add-w-2 c = search needs
+add-w-2 c = omega arith
 
 mul-w-3 : tie.Need-mul-w-3
-mul-w-3 c = search needs
+mul-w-3 c = omega arith
 
 element-write-w-3 : tie.Need-element-write-w-3
-element-write-w-3 c = search needs
+element-write-w-3 c = omega arith
 
 add-next-word-3 : tie.Need-add-next-word-3
-add-next-word-3 c = search needs
+add-next-word-3 c = omega arith
 
 next-word-requires-4 : tie.Need-next-word-requires-4
-next-word-requires-4 c κs = search needs
+next-word-requires-4 c κs = omega arith
 
 add-w-3 : tie.Need-add-w-3
-add-w-3 c = search needs
+add-w-3 c = omega arith
 
 mul-w-4 : tie.Need-mul-w-4
-mul-w-4 c = search needs
+mul-w-4 c = omega arith
 
 element-write-w-4 : tie.Need-element-write-w-4
-element-write-w-4 c = search needs
+element-write-w-4 c = omega arith
 
 returns : tie.Need-returns
-unfolding grown
-returns c = cc
+returns c =
+    let third = c .before .before in
+    let second = third .before .before in
+    four-grown _ _ _ _ _ _ (second .before .before .next-word .ensures) (second .next-word2 .ensures) (third .next-word3 .ensures)
+    (c .next-word4 .ensures)
 
 pub four-words-spec : {M : Type 1} → statement M
 four-words-spec =

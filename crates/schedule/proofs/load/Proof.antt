@@ -4,7 +4,6 @@ use native.Mathlib.Omega.{arith}
 use lib.ListN.{length, take, drop, length-set}
 use Rattle.spans.specs.Words.{words}
 use Rattle.spans.specs.WordLaws.{store-next}
-use borrow.Author.Needs.{needs}
 use Rattle.schedule.proofs.load.Statement.{statement}
 use Rattle.schedule.proofs.load.Tie as tie
 
@@ -19,25 +18,25 @@ unfolding words
 loop-holds c = (omega arith, c .before .pre .1, refl)
 
 mul-word : tie.Need-mul-word Inv-loop μ-loop
-mul-word c = search needs
+mul-word c = omega arith
 
 add-word : tie.Need-add-word Inv-loop μ-loop
-add-word c = search needs
+add-word c = omega arith
 
 word-requires : tie.Need-word-requires Inv-loop μ-loop
-word-requires c κs = search needs
+word-requires c κs = omega arith
 
 mul-w : tie.Need-mul-w Inv-loop μ-loop
-mul-w c = search needs
+mul-w c = omega arith
 
 element-write-w : tie.Need-element-write-w Inv-loop μ-loop
-element-write-w c = search needs
+element-write-w c = omega arith
 
 add-i : tie.Need-add-i Inv-loop μ-loop
-add-i c = search needs
+add-i c = omega arith
 
 loop-less : tie.Need-loop-less Inv-loop μ-loop
-loop-less c = search needs
+loop-less c = omega arith
 
 loop-again : tie.Need-loop-again Inv-loop μ-loop
 loop-again c =

@@ -1,24 +1,25 @@
 use Rattle.turn.specs.Variables.{eight}
-use Rattle.fips.specs.Fips.{round}
-use borrow.Author.Needs.{needs}
+use Rattle.turn.specs.TurnLaws.{round-of}
 use Rattle.turn.proofs.one.Statement.{statement}
 use Rattle.turn.proofs.one.Tie as tie
 
 first-requires : tie.Need-first-requires
-first-requires c κs = search needs
+first-requires c κs = tt
 
 second-requires : tie.Need-second-requires
-second-requires c κs = search needs
+second-requires c κs = tt
 
 wrapping-add-u32-requires : tie.Need-wrapping-add-u32-requires
-wrapping-add-u32-requires c κs = search needs
+wrapping-add-u32-requires c κs = tt
 
 wrapping-add-u32-requires-2 : tie.Need-wrapping-add-u32-requires-2
-wrapping-add-u32-requires-2 c κs = search needs
+wrapping-add-u32-requires-2 c κs = tt
 
 returns : tie.Need-returns
-unfolding round eight
-returns c = cc
+unfolding eight
+returns c =
+    round-of (eight (c .before .before .before .before .args .v)) _ _ _ _ _ _ (c .before .before .before .first .ensures)
+    (c .before .before .second .ensures) (c .before .wrapping-add-u32 .ensures) (c .wrapping-add-u322 .ensures)
 
 pub one-spec : {M : Type 1} → statement M
 one-spec =

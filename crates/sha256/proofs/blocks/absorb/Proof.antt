@@ -5,7 +5,6 @@ use lib.ListN.{length}
 use Rattle.fips.specs.Fips.{hash}
 use Rattle.sha256.specs.Hashes.{hash-next}
 use Rattle.turn.specs.Variables.{eight}
-use borrow.Author.Needs.{needs}
 use Rattle.sha256.proofs.blocks.absorb.Statement.{statement}
 use Rattle.sha256.proofs.blocks.absorb.Tie as tie
 
@@ -20,16 +19,16 @@ unfolding hash
 loop-holds c = (omega arith, refl, refl)
 
 mul-block : tie.Need-mul-block Inv-loop μ-loop
-mul-block c = search needs
+mul-block c = omega arith
 
 block-requires : tie.Need-block-requires Inv-loop μ-loop
-block-requires c κs = search needs
+block-requires c κs = omega arith
 
 add-i : tie.Need-add-i Inv-loop μ-loop
-add-i c = search needs
+add-i c = omega arith
 
 loop-less : tie.Need-loop-less Inv-loop μ-loop
-loop-less c = search needs
+loop-less c = omega arith
 
 loop-again : tie.Need-loop-again Inv-loop μ-loop
 loop-again c =
