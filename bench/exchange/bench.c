@@ -17,7 +17,7 @@
 #include "plain.h"
 #include "scale.h"
 
-enum { SECTOR = 4096, ROUNDS = 15 };
+enum { SECTOR = 4096, ROUNDS = 60 };
 
 typedef struct {
     size_t unit, sectors, slot, covered;
