@@ -1,5 +1,4 @@
-// A start's answer as the words of document 01's line: what was done, c as found, the count, then how it ended and its number; and the cause, where
-// the full start has one.
+// A plain start's answer as the words of document 01's line: what was done, c as found, the count, then how it ended and its number.
 use answers::numbers::Numbers;
 use libc::STDOUT_FILENO;
 
@@ -19,7 +18,7 @@ fn write_done(done: u64) {
 }
 
 // A space and a number.
-pub fn write_number(number: u64) {
+fn write_number(number: u64) {
     write(b" ");
     io::print_decimal(STDOUT_FILENO, number);
 }
@@ -38,10 +37,6 @@ fn write_end(answer: Numbers) {
         _ => {
             write(b" refused");
             write_number(answer.refusal);
-            if answer.cause != 0 {
-                write(b" cause");
-                write_number(answer.cause);
-            }
         }
     }
 }
