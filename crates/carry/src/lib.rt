@@ -88,7 +88,7 @@ fn ok_is_unset(g: Geometry, slot0: &[u8]) -> bool
     requires { ⌜ Small g ⌝ }
     ensures { λ r. ⌜ r ≡ okUnset (build g) (flashOf (now (slot0 .entry)) [] []) ⌝ }
 {
-    image_ok::ok_unset(g, trailer::slot_trailer(g, slot0))
+    marks::image_ok::ok_unset(g, trailer::slot_trailer(g, slot0))
 }
 
 pub fn carry_out(

@@ -4,13 +4,18 @@ ghost use Rattle.flash.specs.Base.{build};
 ghost use Rattle.flash.specs.Small.{Small};
 ghost use Rattle.plan.specs.Decision.{stepA, asks};
 ghost use Rattle.plan.specs.Asked.{flashOf, askedBy};
+
+pub mod course;
+mod resumption;
+mod states;
+
+use crate::resumption::step_b;
+use crate::states::state_c;
 use flash::Geometry;
-use image_ok::ok_set;
-use image_ok::ok_unset;
-use magic::magic_good;
+use marks::image_ok::ok_set;
+use marks::image_ok::ok_unset;
+use marks::magic::magic_good;
 use plan::Course;
-use resumption::step_b;
-use states::state_c;
 use trailer::scratch_trailer;
 use trailer::slot_trailer;
 

@@ -58,8 +58,8 @@ fn decided(g: Geometry, slot0: &[u8], slot1: &[u8], scratch: &[u8]) -> Course
         (inBounds (build g) r ≡ true) ⌝ }
 {
     let asked = decision::asks(g, slot0, slot1, scratch);
-    if course::wants_check(asked) {
-        course::judge(slot_accepted(g, slot1), asked)
+    if decision::course::wants_check(asked) {
+        decision::course::judge(slot_accepted(g, slot1), asked)
     } else {
         asked
     }
@@ -129,8 +129,8 @@ fn take_course(
     let run = carry::carry_out(g, course, slot0, slot1, scratch, all);
     let end = run.end;
     Answer {
-        done: course::done_of(course),
-        found: course::found_of(course),
+        done: decision::course::done_of(course),
+        found: decision::course::found_of(course),
         count: allowance - run.left,
         outcome: outcome_of(g, slot0, end, checked),
     }

@@ -22,7 +22,7 @@ use Rattle.writes.specs.InArea.{okIn, magicIn, steps-ok, steps-marked}
 use Rattle.answers.specs.declared.Refusal.{Refusal}
 use Rattle.answers.specs.declared.Ending.{Ending}
 use Rattle.answers.specs.declared.Marked.{Marked}
-use Rattle.marking.specs.declared.marks.Standing.{Standing}
+use Rattle.marking.specs.declared.taken.Standing.{Standing}
 use Rattle.marking.specs.Marking.{MarkResult, refusedMark, endingOf, wroteAll, unlessUnderWay, unmarked, markUnlessMarked, confirmable, confirmIfNeeded}
 use Rattle.marking.specs.MarkResults.{markResult, refusing-mark}
 use Rattle.marking.specs.Standing.{standingOf, byStanding, standing-says}

@@ -4,7 +4,7 @@ use Rattle.flash.specs.Build.{Flash}
 use Rattle.plan.specs.declared.Course.{Course}
 use Rattle.plan.specs.declared.Course.the-variants.{Damage, FromLineThree, Resume, Test, Permanent, Revert, Clear, Nothing}
 use Rattle.answers.specs.declared.Refusal.{Refusal}
-use Rattle.marking.specs.declared.marks.Standing.{Standing}
+use Rattle.marking.specs.declared.taken.Standing.{Standing}
 use Rattle.marking.specs.Marking.{MarkResult, refusedMark, unlessUnderWay}
 
 unfoldable pub standingOf : Course → Standing

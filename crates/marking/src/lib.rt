@@ -7,7 +7,7 @@ use answers::Marked;
 use answers::Refusal;
 use flash::Geometry;
 
-mod marks;
+mod taken;
 
 // Marks slot 1 for a test or a permanent exchange.
 pub fn mark(g: Geometry, slot0: &[u8], slot1: &mut [u8], scratch: &[u8], permanent: bool) -> Marked
@@ -15,9 +15,9 @@ pub fn mark(g: Geometry, slot0: &[u8], slot1: &mut [u8], scratch: &[u8], permane
         ≡ marking permanent g (flashOf (now (slot0 .entry)) (now (slot1 .entry)) (now (scratch .entry))) ⌝ }
 {
     if fit::taken(g, slot0.len(), slot1.len(), scratch.len()) {
-        marks::mark_taken(g, slot0, slot1, scratch, permanent)
+        taken::mark_taken(g, slot0, slot1, scratch, permanent)
     } else {
-        marks::refuse(Refusal::Geometry)
+        taken::refuse(Refusal::Geometry)
     }
 }
 
@@ -27,8 +27,8 @@ pub fn confirm(g: Geometry, slot0: &mut [u8], slot1: &[u8], scratch: &[u8]) -> M
         ≡ confirming g (flashOf (now (slot0 .entry)) (now (slot1 .entry)) (now (scratch .entry))) ⌝ }
 {
     if fit::taken(g, slot0.len(), slot1.len(), scratch.len()) {
-        marks::confirm_taken(g, slot0, slot1, scratch)
+        taken::confirm_taken(g, slot0, slot1, scratch)
     } else {
-        marks::refuse(Refusal::Geometry)
+        taken::refuse(Refusal::Geometry)
     }
 }

@@ -112,6 +112,6 @@ pub fn data_exchange(
         (state (now (slot0 .entry)) (now (slot1 .entry)) (now (scratch .entry)) run) ⌝ }
 {
     let moved = moves_from(g, c, slot0, slot1, scratch, run);
-    let at = copy_done::done_place(g);
+    let at = marks::copy_done::done_place(g);
     writes::write_mark(g, slot0, Sector(g.sectors - 1), at, 1, moved)
 }

@@ -41,7 +41,7 @@ pub fn write_progress(g: Geometry, slot0: &mut [u8], k: usize, run: Run) -> Run
     ensures { λ r. ⌜ local (now (slot0 .exit)) r ≡ markIn g (trailerSector (build g) Area.slot0) (markAt (build g) k) (1 + k % 3)
         (local (now (slot0 .entry)) run) ⌝ }
 {
-    let at = progress::mark_place(g, k);
+    let at = marks::progress::mark_place(g, k);
     let value = (1 + k % 3) as u8;
     write_mark(g, slot0, Sector(g.sectors - 1), at, value, run)
 }
@@ -53,7 +53,7 @@ pub fn write_ok(g: Geometry, area: &mut [u8], i: Sector, wanted: bool, run: Run)
     ensures { λ r. ⌜ local (now (area .exit)) r ≡ okIn g i wanted (local (now (area .entry)) run) ⌝ }
 {
     if wanted {
-        let at = image_ok::ok_place(g);
+        let at = marks::image_ok::ok_place(g);
         write_mark(g, area, i, at, 1, run)
     } else {
         run
@@ -65,8 +65,8 @@ pub fn write_magic(g: Geometry, area: &mut [u8], i: Sector, run: Run) -> Run
     requires { ⌜ i .0 ≤ 127 ⌝ }
     ensures { λ r. ⌜ local (now (area .exit)) r ≡ magicIn g i (local (now (area .entry)) run) ⌝ }
 {
-    let at = magic::magic_place(g);
+    let at = marks::magic::magic_place(g);
     let u = unit_in(g, i, at);
-    let bytes = magic::magic_bytes();
+    let bytes = marks::magic::magic_bytes();
     operations::write_units(g, &bytes, Offset(0), area, u, 16 / g.unit, run)
 }

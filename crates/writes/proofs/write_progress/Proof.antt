@@ -5,7 +5,7 @@ use Rattle.flash.specs.declared.Offset.{Offset}
 use Rattle.flash.specs.Geometry.{sectorNo}
 use Rattle.flash.specs.Base.{base}
 use Rattle.flash.specs.Operations.{local}
-use Rattle.progress.specs.PlaceLaws.{marks-fit}
+use Rattle.marks.specs.PlaceLaws.{marks-fit}
 use Rattle.writes.specs.InArea.{markIn}
 use borrow.Author.Needs.{needs}
 use Rattle.writes.proofs.write_progress.Statement.{statement}

@@ -1,0 +1,4 @@
+pub mod MagicLaws
+pub mod ReadLaws
+pub mod PlaceLaws
+pub mod RunLaws
