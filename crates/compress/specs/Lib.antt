@@ -1,1 +1,4 @@
+pub mod Grown
+pub mod Variables
+pub mod TurnLaws
 pub mod Turns

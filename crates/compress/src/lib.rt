@@ -3,9 +3,13 @@ ghost use mathlib.Core.Path.{_≡_};
 ghost use Prim.Native.Nat.{_+_, _≤_, _<_};
 ghost use Rattle.fips.specs.Fips.{rounds, plus};
 ghost use Rattle.fips.specs.Fips as Fips;
-ghost use Rattle.turn.specs.Variables.{eight};
+ghost use Rattle.compress.specs.Variables.{eight};
 ghost use Rattle.compress.specs.Turns.{turn, eightTurns};
-use turn::Work;
+
+pub mod schedule;
+pub mod turn;
+
+use crate::turn::Work;
 
 const K: [u32; 64] = [
     0x428a2f98,
@@ -78,7 +82,7 @@ fn turn_at(v: Work, k: &[u32; 64], w: &[u32; 64], t: usize) -> Work
     requires { ⌜ (t < 64) × (now k ≡ Fips.K) ⌝ }
     ensures { λ r. ⌜ eight r ≡ turn (now (w .entry)) (eight v) t ⌝ }
 {
-    turn::one(v, k[t], w[t])
+    crate::turn::one(v, k[t], w[t])
 }
 
 // The turns for t to t + 7.

@@ -3,6 +3,10 @@ ghost use mathlib.Core.Path.{_≡_};
 ghost use Prim.Native.Nat.{_≤_};
 ghost use lib.ListN.{length};
 ghost use Rattle.causes.specs.Check.{causeOf, digestAt, check};
+
+pub mod header;
+mod layout;
+
 use causes::Cause;
 use causes::Layout;
 use causes::Verdict;
@@ -25,7 +29,7 @@ fn digest_at(image: &[u8], covered: usize, at: usize) -> Verdict
 pub fn check(image: &[u8]) -> Verdict
     ensures { λ r. ⌜ r ≡ check (now (image .entry)) ⌝ }
 {
-    match layout::structure(image) {
+    match crate::layout::structure(image) {
         Layout::Wrong(cause) => Verdict::Rejected(cause),
         Layout::Sound { covered, digest } => digest_at(image, covered, digest),
     }

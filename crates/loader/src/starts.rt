@@ -79,7 +79,7 @@ fn checked_boot(image: &[u8], offset: usize) -> Outcome
 fn boot_data(image: &[u8], checked: bool) -> Outcome
     ensures { λ r. ⌜ r ≡ started checked (head (now (image .entry))) (check (now (image .entry))) ⌝ }
 {
-    match header::head(image) {
+    match image::header::head(image) {
         Header::Bad(_) => Outcome::Refused(Refusal::Header),
         Header::Good {
             header,

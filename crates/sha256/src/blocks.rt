@@ -4,15 +4,15 @@ ghost use Prim.Native.Nat.{_+_, _*_, _≤_};
 ghost use lib.ListN.{length, drop};
 ghost use Rattle.spans.specs.Words.{words};
 ghost use Rattle.fips.specs.Fips.{compress, hash};
-ghost use Rattle.turn.specs.Variables.{eight};
-use turn::Work;
+ghost use Rattle.compress.specs.Variables.{eight};
+use compress::turn::Work;
 
 // The hash value after the block at at. The schedule is made in w, whose words may be any.
 fn block(h: Work, bytes: &[u8], at: usize, w: &mut [u32; 64]) -> Work
     requires { ⌜ (at + 64 ≤ length (now bytes)) × (length (now w) ≡ 64) ⌝ }
     ensures { λ r. ⌜ (eight r ≡ compress (eight h) (words 4 16 (drop at (now (bytes .entry))))) × (length (now (w .exit)) ≡ 64) ⌝ }
 {
-    schedule::of_block(bytes, at, w);
+    compress::schedule::of_block(bytes, at, w);
     compress::next_hash(h, w)
 }
 

@@ -8,8 +8,8 @@ ghost use lib.ListN.{length};
 ghost use Rattle.spans.specs.Bytes.{put};
 ghost use Rattle.spans.specs.Words.{bytesOf};
 ghost use Rattle.fips.specs.Fips.{H₀, result, sha256};
-ghost use Rattle.turn.specs.Variables.{eight};
-use turn::Work;
+ghost use Rattle.compress.specs.Variables.{eight};
+use compress::turn::Work;
 
 fn start() -> Work
     ensures { λ r. ⌜ eight r ≡ H₀ ⌝ }

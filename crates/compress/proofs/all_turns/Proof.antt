@@ -2,7 +2,7 @@ use mathlib.Core.Path.{_≡_, refl, ap, _∙_}
 use Prim.Native.Nat.{_-_, _%_, _≤_}
 use native.Mathlib.Omega.{arith}
 use Rattle.fips.specs.Fips.{K, rounds}
-use Rattle.turn.specs.Variables.{eight}
+use Rattle.compress.specs.Variables.{eight}
 use Rattle.compress.specs.Turns.{rounds-none, rounds-eight}
 use borrow.Author.Needs.{needs}
 use Rattle.compress.proofs.all_turns.Statement.{statement}

@@ -1,6 +1,6 @@
 use mathlib.Core.Path.{ap, _∙_}
 use Rattle.fips.specs.Fips.{Eight, plus}
-use Rattle.turn.specs.Variables.{eight}
+use Rattle.compress.specs.Variables.{eight}
 use Rattle.compress.proofs.next_hash.Statement.{statement}
 use Rattle.compress.proofs.next_hash.Tie as tie
 

@@ -1,4 +1,4 @@
-use Rattle.turn.specs.Variables.{eight}
+use Rattle.compress.specs.Variables.{eight}
 use Rattle.fips.specs.Fips.{plus}
 use Rattle.compress.proofs.sum.Statement.{statement}
 use Rattle.compress.proofs.sum.Tie as tie

@@ -4,7 +4,7 @@ use mathlib.Core.List.{List}
 use Prim.Native.Nat.{ℕ}
 use lib.ListN.{getD}
 use Rattle.fips.specs.Fips.{round}
-use Rattle.turn.specs.Variables.{eight}
+use Rattle.compress.specs.Variables.{eight}
 use native.Mathlib.Omega.{arith}
 use Rattle.compress.proofs.turn_at.Statement.{statement}
 use Rattle.compress.proofs.turn_at.Tie as tie

@@ -1,7 +1,7 @@
 use mathlib.Core.Path.{refl}
 use lib.ListN.{replicate}
 use Rattle.sha256.specs.Results.{put-result}
-use Rattle.turn.specs.Variables.{eight}
+use Rattle.compress.specs.Variables.{eight}
 use native.Mathlib.Omega.{arith}
 use Rattle.sha256.proofs.result_of.Statement.{statement}
 use Rattle.sha256.proofs.result_of.Tie as tie

@@ -1,6 +1,6 @@
 use mathlib.Core.Path.{refl}
 use Rattle.fips.specs.Fips.{H₀}
-use Rattle.turn.specs.Variables.{eight}
+use Rattle.compress.specs.Variables.{eight}
 use Rattle.sha256.proofs.start.Statement.{statement}
 use Rattle.sha256.proofs.start.Tie as tie
 

@@ -4,7 +4,7 @@ use native.Mathlib.Omega.{arith}
 use lib.ListN.{length}
 use Rattle.fips.specs.Fips.{hash}
 use Rattle.sha256.specs.Hashes.{hash-next}
-use Rattle.turn.specs.Variables.{eight}
+use Rattle.compress.specs.Variables.{eight}
 use Rattle.sha256.proofs.blocks.absorb.Statement.{statement}
 use Rattle.sha256.proofs.blocks.absorb.Tie as tie
 

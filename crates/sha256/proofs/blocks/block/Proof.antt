@@ -2,7 +2,7 @@ use mathlib.Core.Path.{ap, _∙_}
 use mathlib.Core.List.{List}
 use Prim.Native.Nat.{ℕ}
 use Rattle.fips.specs.Fips.{rounds, plus, compress}
-use Rattle.turn.specs.Variables.{eight}
+use Rattle.compress.specs.Variables.{eight}
 use native.Mathlib.Omega.{arith}
 use Rattle.sha256.proofs.blocks.block.Statement.{statement}
 use Rattle.sha256.proofs.blocks.block.Tie as tie

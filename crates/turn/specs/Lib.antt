@@ -1,2 +1,0 @@
-pub mod Variables
-pub mod TurnLaws
