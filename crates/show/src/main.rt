@@ -1,4 +1,5 @@
 // Document 01's show program: the plain start on a dump of slot 0, slot 1 and scratch (write unit 1, sectors of 512, 2 of them per slot).
+use flash::Geometry;
 use libc::STDIN_FILENO;
 
 fn fills(area: &mut [u8]) -> bool {
@@ -20,7 +21,13 @@ fn fills_all(slot0: &mut [u8], slot1: &mut [u8], scratch: &mut [u8]) -> bool {
 }
 
 fn start(slot0: &mut [u8], slot1: &mut [u8], scratch: &mut [u8]) {
-    line::write_answer(scale::scale_power_up(1, 512, 2, slot0, slot1, scratch, 4000));
+    let g = Geometry {
+        unit: 1,
+        sector: 512,
+        sectors: 2,
+    };
+    let answer = loader::power_up(g, slot0, slot1, scratch, 4000);
+    line::write_answer(answers::numbers::of_answer(answer));
     line::write(b"\n");
 }
 
