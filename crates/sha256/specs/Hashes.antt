@@ -11,7 +11,7 @@ use Rattle.spans.specs.Runs.{drop-take}
 use Rattle.spans.specs.Words.{words, bytesOf}
 use Rattle.spans.specs.WordLaws.{words-take}
 use Rattle.fips.specs.Fips.{Eight, M, zeros, pad, H₀, compress, hash, result, sha256}
-use Rattle.padding.specs.Padding.{Ending}
+use Rattle.sha256.specs.Padding.{Ending}
 
 -- one more block
 pub hash-next : (H : Eight) (p : List ℕ) (i : ℕ) (v r : Eight) → v ≡ hash H p i

@@ -1,5 +1,6 @@
 // SHA-256 of FIPS 180-4.
 mod blocks;
+mod padding;
 
 ghost use mathlib.Core.Path.{_≡_};
 ghost use mathlib.Core.List.{_++_};

@@ -4,7 +4,7 @@ ghost use Prim.Native.Nat.{_+_, _*_, _%_, _^_, _≤_, _<_};
 ghost use lib.ListN.{length, replicate};
 ghost use Rattle.spans.specs.Bytes.{put};
 ghost use Rattle.spans.specs.Words.{bytesOf};
-ghost use Rattle.padding.specs.Padding.{Ending};
+ghost use Rattle.sha256.specs.Padding.{Ending};
 
 fn half(x: u64) -> u32
     ensures { λ r. ⌜ r ≡ x % 2 ^ 32 ⌝ }

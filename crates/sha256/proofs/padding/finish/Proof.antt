@@ -2,9 +2,9 @@ use mathlib.Core.Path.{refl, ap, _∙_}
 use native.Mathlib.Omega.{arith}
 use lib.ListN.{length, length-set}
 use Rattle.spans.specs.Laws.{length-put}
-use Rattle.padding.specs.Padding.{ending-of}
-use Rattle.padding.proofs.finish.Statement.{statement}
-use Rattle.padding.proofs.finish.Tie as tie
+use Rattle.sha256.specs.Padding.{ending-of}
+use Rattle.sha256.proofs.padding.finish.Statement.{statement}
+use Rattle.sha256.proofs.padding.finish.Tie as tie
 
 sub-rest : tie.Need-sub-rest
 sub-rest c = omega arith

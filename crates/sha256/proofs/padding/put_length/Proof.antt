@@ -1,7 +1,7 @@
-use Rattle.padding.specs.Padding.{put-length}
+use Rattle.sha256.specs.Padding.{put-length}
 use native.Mathlib.Omega.{arith}
-use Rattle.padding.proofs.put_length.Statement.{statement}
-use Rattle.padding.proofs.put_length.Tie as tie
+use Rattle.sha256.proofs.padding.put_length.Statement.{statement}
+use Rattle.sha256.proofs.padding.put_length.Tie as tie
 
 half-requires : tie.Need-half-requires
 half-requires c κs = tt
