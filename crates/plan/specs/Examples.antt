@@ -65,11 +65,11 @@ examples =
     ∷ row (stopped 41 (marked false)) (exchanged false) ∷ row (stopped 81 (marked false)) (exchanged false)
     ∷ row (stopped 121 (marked false)) (exchanged false)
     -- before copy done
-    ∷ row (stopped 159 (marked false)) (exchanged false) ∷ []
+    ∷ row (stopped 159 (marked false)) (exchanged false) ∷ row (stopped 161 (marked true)) (exchanged true) ∷ []
 
 pub examples-hold : Holds examples
 unfolding examples g old new ok holding marked exchanged accepts after stopped base decide judged asks stepA stepB
     continue stateC listOf okUnset written legal hasValue isUnset noMagic isGood markOf markBytes magicOf trailer
     magicBytes writes magicOps okOps linesOneTwo linesThreeToSix copies moveOps dataOps exchange erases clearOut
     threeMoves allMoves put part blank same attempt eraseIn erased writeIn step steps
-examples-hold = and refl (and refl (and refl (and refl (and refl (and refl (and refl (and refl no-more)))))))
+examples-hold = and refl (and refl (and refl (and refl (and refl (and refl (and refl (and refl (and refl no-more))))))))
