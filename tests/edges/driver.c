@@ -17,7 +17,7 @@ static size_t unit, sector, sectors, slot, scratch;
 /* The command: its word, its numbers, its text. */
 static char word[16];
 static size_t n[NUMBERS], numbers;
-static const char *text;
+static const char *text = "";
 static size_t text_length;
 
 static bool is(const char *name, size_t how_many) {
@@ -219,6 +219,8 @@ int main(void) {
     static char script[65536];
     size_t length = fread(script, 1, sizeof script - 1, stdin);
     const char *p = script, *end = script + length;
+    if (length == sizeof script - 1)
+        stop("the script is too long");
     memset(flash, 'a', sizeof flash);
     while (p < end) {
         const char *line = memchr(p, '\n', (size_t)(end - p));
