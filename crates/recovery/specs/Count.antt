@@ -1,15 +1,19 @@
 -- How many operations an exchange takes.
 use mathlib.Core.Path.{_≡_}
 use mathlib.Core.List.{List, [], _∷_, _++_}
-use mathlib.Core.Bool.{Bool}
+use mathlib.Core.Bool.{Bool, true, false}
 use Prim.Native.Nat.{ℕ, suc, _+_, _*_, _/_, _≤_}
-use native.Mathlib.Nat.{mul-le-mul-right}
+use native.Mathlib.Nat.{mul-le-mul-right, le-of-mul-le-mul-right, dvd-mul-left-of-dvd, div-mul-cancel}
 use native.Mathlib.Omega.{arith}
 use lib.ListN.{length, length-append}
 use Rattle.flash.specs.Build.{Build, Move}
-use Rattle.plan.specs.Lists.{linesOneTwo, linesThreeToSix, moveOps, dataOps, exchange}
+use Rattle.plan.specs.Lists.{progress, linesOneTwo, linesThreeToSix, moveOps, dataOps, exchange}
 use Rattle.plan.specs.Lengths.{one-if, length-copies, length-ok, length-magic}
-use Rattle.recovery.specs.Places.{per}
+use Rattle.recovery.specs.Places.{Geo, per}
+
+at-most-one : (p : Bool) → one-if p ≤ 1
+at-most-one true = omega arith
+at-most-one false = omega arith
 
 length-data : (g : Build) (c : ℕ) (ms : List Move) → length (dataOps g c ms) ≡ length ms * (per g + 2) + 1
 unfolding dataOps moveOps
@@ -30,3 +34,27 @@ rest-short g p c ms h = simp (length-data, length-exchange) (omega (arith, mul-l
 pub settle-short : (g : Build) (p : Bool) → length (linesThreeToSix g p ++ dataOps g 3 (g .moves)) ≤ length (exchange g p)
 unfolding exchange
 settle-short g p = simp length-append (omega arith)
+
+-- ---- the parts of an exchange that a cut takes up again from their beginning: none is longer than a move with its mark
+
+pub length-move : (g : Build) (c : ℕ) (m : Move) → length (moveOps g m ++ (progress g c ∷ [])) ≡ per g + 2
+unfolding moveOps
+length-move g c m = simp (length-append, length-copies) (omega arith)
+
+module _ {g : Build} (geo : Geo g) where
+  -- a sector has room for three marks of each sector, and for magic, image ok and copy done
+  roomy : 6 + 2 * (16 / g .unit) ≤ per g
+  roomy =
+      let w : ℕ = g .unit in
+      let d : 16 / w * w ≡ 16 = div-mul-cancel w (dvd-mul-left-of-dvd w (geo .eight) 2) in
+      let s : per g * w ≡ g .sector = div-mul-cancel w (geo .whole) in
+      let n : 6 * w ≤ 3 * g .sectors * w = mul-le-mul-right w (omega (arith, geo .two)) in
+      le-of-mul-le-mul-right {k = w} (omega (arith, geo .room)) (geo .positive)
+
+  pub begin-short : (p : Bool) → length (linesOneTwo g p) ≤ per g + 2
+  unfolding linesOneTwo
+  begin-short p = simp (length-append, length-ok, length-magic) (omega (arith, roomy, at-most-one p))
+
+  pub settling-short : (p : Bool) → length (linesThreeToSix g p) ≤ per g + 2
+  unfolding linesThreeToSix
+  settling-short p = simp (length-append, length-ok, length-magic) (omega (arith, roomy, at-most-one p))

@@ -1,5 +1,5 @@
 -- Lists of operations one after the other, carried out and cut.
-use mathlib.Core.Path.{_≡_, refl, subst}
+use mathlib.Core.Path.{_≡_, refl, ap, subst, _∙_}
 use mathlib.Core.Logic.{_⊎_, inl, inr}
 use mathlib.Core.List.{List, [], _∷_, _++_}
 use Prim.Native.Nat.{ℕ, zero, suc, _-_, _≤_, _<_}
@@ -75,3 +75,20 @@ module _ {g : Build} where
 
   pub cut-nil : {f f' : Flash} → Cut g [] f f' → ⊥
   cut-nil c = nothing-to-cut c refl
+
+-- the first operations of two lists in a row, where the allowance reaches past the first list
+pub run-past : (g : Build) (b : ℕ) (xs ys : List Op) (f : Flash) → length xs ≤ b
+    → run g b (xs ++ ys) f ≡ run g (b - length xs) ys (runAll g xs f)
+unfolding run runAll
+run-past g b [] ys f h = let e : b ≡ b - 0 = omega arith in ap (λ (k : ℕ). run g k ys f) e
+run-past g zero (x ∷ xs) ys f h = absurd (omega arith)
+run-past g (suc b) (x ∷ xs) ys f h =
+    let e : b - length xs ≡ suc b - suc (length xs) = omega arith in
+    run-past g b xs ys (apply g x f) (omega arith) ∙ ap (λ (k : ℕ). run g k ys (runAll g xs (apply g x f))) e
+
+-- and where it ends within the first list
+pub run-within : (g : Build) (b : ℕ) (xs ys : List Op) (f : Flash) → b ≤ length xs → run g b (xs ++ ys) f ≡ run g b xs f
+unfolding run
+run-within g zero xs ys f h = refl
+run-within g (suc b) [] ys f h = absurd (omega arith)
+run-within g (suc b) (x ∷ xs) ys f h = run-within g b xs ys (apply g x f) (omega arith)

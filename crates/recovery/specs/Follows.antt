@@ -3,6 +3,7 @@ use mathlib.Core.Path.{_≡_, refl, sym, ap, ap₂, _∙_, subst}
 use mathlib.Core.List.{List, [], _∷_, _++_}
 use mathlib.Core.Bool.{Bool, true, false}
 use Prim.Native.Nat.{ℕ, suc, _+_, _*_, _-_, _≤_, _<_}
+use native.Mathlib.Nat.{le-of-eq}
 use native.Mathlib.Omega.{arith}
 use lib.ListN.{length, take, drop}
 use lib.Seq.{drop-drop, take-add}
@@ -18,9 +19,9 @@ use Rattle.plan.specs.Decision.{stepB, stateC, asks, judged, decide, listOf, ok
 use Rattle.recovery.specs.All.{All, none, one, one-less}
 use Rattle.recovery.specs.Cuts.{runAll-append}
 use Rattle.recovery.specs.Windows.{hidden-run, hidden-cut, all-lengths}
-use Rattle.recovery.specs.Places.{Geo, Sized}
+use Rattle.recovery.specs.Places.{Geo, Sized, per}
 use Rattle.recovery.specs.Statement.{Sound, Proper, Failures, Exchange, by-test, by-permanent, by-revert, sectorOf}
-use Rattle.recovery.specs.Count.{rest-short, settle-short}
+use Rattle.recovery.specs.Count.{rest-short, settle-short, length-move, begin-short, settling-short}
 use Rattle.recovery.specs.Hiding.{hidden-begin}
 use Rattle.recovery.specs.Begin.{sized-run, begun, trailer-begin, begun-good, step-A}
 use Rattle.recovery.specs.Settling.{Under, wipeBoth, settled}
@@ -29,6 +30,7 @@ use Rattle.recovery.specs.Sectors.{sameSector, moved, moved-append, move
 use Rattle.recovery.specs.MoveRun.{sector-step, sector-settled}
 use Rattle.recovery.specs.Validity.{valid-same}
 use Rattle.recovery.specs.Chunks.{Chunk, allOps, Good, over, first, taken-up}
+use Rattle.recovery.specs.Starts.{FinishedBy, AllStopped, NoLonger, nothing, chunk, finishes-after, never-finishes}
 use Rattle.recovery.specs.Stages.{BeginLike, beginChunk, settleChunk, moveChunk, doneChunk, dataChunks, all-data}
 
 -- ---- what holds on the way
@@ -216,3 +218,42 @@ module _ (check : List ℕ → Bool) {g : Build} (geo : Geo g) (sound : Sound g)
   unfolding chunks SameLengths
   follows fs =
       rw (← all-exchange) (taken-up (inForce check g) (SameLengths f₀) (Way check g p f₀) keeps good-exchange (λ a. refl) fs)
+
+  -- ---- starts one after the other, each with an allowance for a move and its mark
+
+  moves-short : (c : ℕ) (ms : List Move) → NoLonger (per g + 2) (dataChunks geo c ms)
+  unfolding dataChunks doneChunk moveChunk
+  moves-short c [] = chunk {c = doneChunk geo} (omega arith) nothing
+  moves-short c (m ∷ ms) = chunk {c = moveChunk geo c m} (le-of-eq (length-move g c m)) (moves-short (suc c) ms)
+
+  chunks-short : NoLonger (per g + 2) chunks
+  unfolding chunks beginChunk settleChunk
+  chunks-short =
+      chunk {c = beginChunk geo p} (begin-short geo p) (chunk {c = settleChunk geo p} (settling-short geo p) (moves-short 3 (g .moves)))
+
+  length-moves : (c : ℕ) (ms : List Move) → length (dataChunks geo c ms) ≡ suc (length ms)
+  unfolding dataChunks
+  length-moves c [] = refl
+  length-moves c (m ∷ ms) = ap suc (length-moves (suc c) ms)
+
+  pub follows-on : {f : Flash} → Failures g (inForce check g) f₀ f → (bs : List ℕ) → All (λ (b : ℕ). per g + 2 ≤ b) bs
+      → length (g .moves) + 3 ≤ length bs → FinishedBy g (inForce check g) (runAll g (exchange g p) f₀) bs f
+  unfolding chunks SameLengths
+  follows-on fs bs hs l =
+      rw (← all-exchange) (finishes-after (inForce check g) (SameLengths f₀) (Way check g p f₀) keeps (per g + 2) good-exchange
+      (λ a. refl) chunks-short fs bs hs (omega (arith, length-moves 3 (g .moves))))
+
+  -- with fewer than that, none comes past the first move once the trailer exchange is done
+  pub stays-behind : {m : Move} {ms : List Move} → g .moves ≡ m ∷ ms → (bs : List ℕ) → All (λ (b : ℕ). b < per g + 2) bs
+      → AllStopped g (inForce check g) bs (runAll g (linesThreeToSix g p) (runAll g (linesOneTwo g p) f₀))
+  unfolding SameLengths started dataChunks moveChunk
+  stays-behind {m} {ms} e bs hs =
+      let good : Good (inForce check g) (SameLengths f₀) (Way check g p f₀) keeps (dataChunks geo 3 (m ∷ ms))
+      (runAll g (linesThreeToSix g p) started) = subst (λ (x : List Move). Good (inForce check g) (SameLengths f₀) (Way check g p f₀)
+      keeps (dataChunks geo 3 x) (runAll g (linesThreeToSix g p) started)) e (good-moves (g .moves) settled-at) in
+      never-finishes (inForce check g) (SameLengths f₀) (Way check g p f₀) keeps (per g + 2) bs good (rw (length-move g 3 m) hs) refl
+      (λ a. all-same a)
+    where
+      all-same : (a : Area) → length (area a (runAll g (linesThreeToSix g p) started)) ≡ length (area a f₀)
+      all-same a =
+          hidden-run (all-lengths g a (linesThreeToSix g p)) started ∙ hidden-run (all-lengths g a (linesOneTwo g p)) f₀

@@ -10,6 +10,7 @@ pub mod Changes
 pub mod ClearOut
 pub mod Count
 pub mod Edges
+pub mod LeastAllowance
 -- the proof, from lists and windows up
 pub mod All
 pub mod Cuts
@@ -24,6 +25,7 @@ pub mod Moving
 pub mod Sectors
 pub mod MoveRun
 pub mod Chunks
+pub mod Starts
 pub mod Stages
 pub mod Follows
 pub mod NeverLost
