@@ -3,7 +3,6 @@ use mathlib.Core.Path.{_≡_, refl, sym, ap, ap₂, _∙_, subst}
 use mathlib.Core.List.{List, [], _∷_, _++_}
 use mathlib.Core.Bool.{Bool, true, false}
 use Prim.Native.Nat.{ℕ, suc, _+_, _*_, _-_, _≤_, _<_}
-use native.Mathlib.Nat.{le-of-eq}
 use native.Mathlib.Omega.{arith}
 use lib.ListN.{length, take, drop}
 use lib.Seq.{drop-drop, take-add}
@@ -223,13 +222,15 @@ module _ (check : List ℕ → Bool) {g : Build} (geo : Geo g) (sound : Sound g)
 
   moves-short : (c : ℕ) (ms : List Move) → NoLonger (per g + 2) (dataChunks geo c ms)
   unfolding dataChunks doneChunk moveChunk
-  moves-short c [] = chunk {c = doneChunk geo} (omega arith) nothing
-  moves-short c (m ∷ ms) = chunk {c = moveChunk geo c m} (le-of-eq (length-move g c m)) (moves-short (suc c) ms)
+  moves-short c [] = chunk {c = doneChunk geo} (omega arith) (omega arith) nothing
+  moves-short c (m ∷ ms) =
+      let n = length-move g c m in chunk {c = moveChunk geo c m} (omega arith) (omega arith) (moves-short (suc c) ms)
 
   chunks-short : NoLonger (per g + 2) chunks
-  unfolding chunks beginChunk settleChunk
+  unfolding chunks beginChunk settleChunk linesOneTwo linesThreeToSix
   chunks-short =
-      chunk {c = beginChunk geo p} (begin-short geo p) (chunk {c = settleChunk geo p} (settling-short geo p) (moves-short 3 (g .moves)))
+      chunk {c = beginChunk geo p} (omega arith) (begin-short geo p)
+      (chunk {c = settleChunk geo p} (omega arith) (settling-short geo p) (moves-short 3 (g .moves)))
 
   length-moves : (c : ℕ) (ms : List Move) → length (dataChunks geo c ms) ≡ suc (length ms)
   unfolding dataChunks
