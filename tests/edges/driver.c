@@ -133,6 +133,22 @@ static uint64_t cuts(size_t due, size_t ended, size_t below) {
     return count;
 }
 
+/* A start from a kept flash, its answer, and whether it leaves the flash as it stands here, or where not first. */
+static void leaves(size_t k, uint64_t allowance) {
+    static uint8_t wanted[FLASH];
+    size_t place = 0;
+    memcpy(wanted, flash, size());
+    memcpy(flash, shelf(k), size());
+    say_start(call(START, allowance));
+    while (place < size() && flash[place] == wanted[place])
+        place++;
+    if (place == size())
+        printf(", as stated");
+    else
+        printf(", WRONG: byte %zu of the flash is %02x, stated %02x", place, flash[place], wanted[place]);
+    memcpy(flash, wanted, size());
+}
+
 /* Commands that print nothing. */
 static bool change(void) {
     if (is("geometry", 5)) {
@@ -140,6 +156,10 @@ static bool change(void) {
         at(0, 0, size());
     } else if (is("erase", 0)) {
         memset(flash, 0xff, size());
+    } else if (is("erase", 3)) {
+        memset(at(n[0], n[1], n[2]), 0xff, n[2]);
+    } else if (is("copy", 5)) {
+        memmove(at(n[2], n[3], n[4]), at(n[0], n[1], n[4]), n[4]);
     } else if (is("keep", 1)) {
         memcpy(shelf(n[0]), flash, size());
     } else if (is("from", 1)) {
@@ -183,6 +203,8 @@ static void tell(void) {
             printf("accepted");
     } else if (is("same", 5)) {
         printf(memcmp(at(n[0], n[1], n[4]), at(n[2], n[3], n[4]), n[4]) == 0 ? "right" : "WRONG");
+    } else if (is("leaves", 2)) {
+        leaves(n[0], n[1]);
     } else if (is("cuts", 3)) {
         printf("%" PRIu64 " ended as the one never cut", cuts(n[0], n[1], n[2]));
     } else {
