@@ -145,7 +145,7 @@ static void leaves(size_t k, uint64_t allowance) {
     if (place == size())
         printf(", as stated");
     else
-        printf(", WRONG: byte %zu of the flash is %02x, stated %02x", place, flash[place], wanted[place]);
+        printf(", WRONG at byte %zu of the flash, %02x and not %02x", place, flash[place], wanted[place]);
     memcpy(flash, wanted, size());
 }
 
