@@ -94,15 +94,19 @@ fn kind_of(random: &mut Random) -> usize {
     random.below(3)
 }
 
+/// The chances at one cut: the same whatever else is tried with this seed.
+fn at_cut(seed: u64, cut: usize, harm: Harm) -> Random {
+    Random(Random(seed ^ (cut as u64) << 8 ^ harm as u64).next())
+}
+
 /// Every cut point of one exchange, under each of the harms given.
 pub fn every_cut(lent: &mut Lent, seed: u64, geometry: Geometry, kind: usize, harms: &[Harm]) -> Outcome {
-    let mut random = Random(seed);
-    let exchange = Exchange::new(&mut random, geometry, kind)?;
+    let exchange = Exchange::new(&mut Random(seed), geometry, kind)?;
     let mut rolling = exchange.before.clone();
     let mut cuts = 0;
     for (cut, operation) in exchange.list.iter().enumerate() {
         let at = |problem: String| format!("cut {cut} of {geometry:?}, kind {kind}: {problem}");
-        lent.load(&exchange.before, random.below(4096));
+        lent.load(&exchange.before, at_cut(seed, cut, Harm::Clean).below(4096));
         let got = lent.power_up(geometry, cut as u64);
         if (got.done, got.found, got.count, got.end) != (exchange.done as u64, 0, cut as u64, 1) {
             return Err(at(format!("stopped with {got:?}")));
@@ -116,6 +120,7 @@ pub fn every_cut(lent: &mut Lent, seed: u64, geometry: Geometry, kind: usize, ha
                 continue;
             }
             let mut flash = rolling.clone();
+            let mut random = at_cut(seed, cut, *kind_of_harm);
             harm(&mut random, geometry, &mut flash, *operation, *kind_of_harm);
             let place = random.below(4096);
             cuts += exchange.finish(lent, &flash, place).map_err(|problem| at(format!("{kind_of_harm:?}, {problem}")))?;
@@ -160,8 +165,8 @@ pub fn every_second_cut(lent: &mut Lent, seed: u64, geometry: Geometry, first: u
     let exchange = Exchange::new(&mut random, geometry, kind)?;
     let mut flash = exchange.before.clone();
     let first = first % exchange.list.len();
-    for operation in &exchange.list[..first] {
-        geometry.carry_out(&mut flash, *operation);
+    if geometry.carry_out_list(&mut flash, &exchange.list, first as u64) != (first as u64, false) {
+        return Err(format!("a unit is not erased before cut {first}"));
     }
     harm(&mut random, geometry, &mut flash, exchange.list[first], Harm::Arbitrary);
     let list = geometry.plan(&flash).ok_or("damage after the first cut")?.list;
@@ -170,7 +175,9 @@ pub fn every_second_cut(lent: &mut Lent, seed: u64, geometry: Geometry, first: u
         harm(&mut random, geometry, &mut cut, *operation, Harm::Arbitrary);
         let at = |problem: String| format!("cuts {first} and {second} of {geometry:?}, kind {kind}: {problem}");
         exchange.finish(lent, &cut, 0).map_err(at)?;
-        geometry.carry_out(&mut flash, *operation);
+        if !geometry.carry_out(&mut flash, *operation) {
+            return Err(at("a unit is not erased".into()));
+        }
     }
     Ok(list.len() as u64)
 }

@@ -5,14 +5,15 @@ use crate::image;
 use crate::reached::{reach, Branch};
 use crate::trailer::{Magic, Mark};
 
+/// What was done, in document 01's order, which numbers it at the C boundary.
 #[derive(Clone, Copy, PartialEq, Debug)]
 pub enum Done {
-    None,
-    Test,
-    Permanent,
-    Revert,
-    Resumed,
-    Cleared,
+    None = 0,
+    Test = 1,
+    Permanent = 2,
+    Revert = 3,
+    Resumed = 4,
+    Cleared = 5,
 }
 
 #[derive(Clone, Copy, PartialEq, Debug)]

@@ -1,6 +1,15 @@
 //! Numbers from a seed (splitmix64), so that a difference can be run again.
 
+use std::io::Read;
+
 pub struct Random(pub u64);
+
+/// A seed that nobody chose.
+pub fn from_the_system() -> u64 {
+    let mut bytes = [0; 8];
+    std::fs::File::open("/dev/urandom").and_then(|mut file| file.read_exact(&mut bytes)).expect("the system gives random bytes");
+    u64::from_le_bytes(bytes)
+}
 
 impl Random {
     pub fn next(&mut self) -> u64 {

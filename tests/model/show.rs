@@ -38,16 +38,17 @@ fn one(program: &str, what: &str, input: &[u8]) -> Outcome {
     if got == wanted { Ok(1) } else { Err(format!("show, {what}: got {got:?}, wanted {wanted:?}")) }
 }
 
-pub fn compare(program: &str, random_dumps: u64) -> Outcome {
+pub fn compare(program: &str, base: u64, random_dumps: u64) -> Outcome {
     let mut runs = 0;
     for length in [0, 1, 1024, 3071, 3072, 3073, 4096, 6144, 200_000] {
         for byte in [0xff, 0] {
             runs += one(program, &format!("{length} bytes of {byte:02x}"), &vec![byte; length])?;
         }
     }
-    for seed in 0..random_dumps {
-        let flash = SMALL.state(&mut Random(seed));
-        runs += one(program, &format!("dump from seed {seed}"), &flash.areas.concat())?;
+    let mut random = Random(base);
+    for dump in 0..random_dumps {
+        let flash = SMALL.state(&mut random);
+        runs += one(program, &format!("random dump {dump} of seed {base}"), &flash.areas.concat())?;
     }
     Ok(runs)
 }

@@ -43,6 +43,7 @@ mod calls {
     use super::*;
 
     pub const NAME: &str = "the archive";
+    const GUARD: u8 = 0x5a;
 
     unsafe extern "C" {
         fn scale_sha256(message: *const u8, length: usize, digest: *mut u8);
@@ -92,9 +93,10 @@ mod calls {
     }
 
     pub fn digest(message: &[u8]) -> [u8; 32] {
-        let mut digest = [0; 32];
-        unsafe { scale_sha256(message.as_ptr(), message.len(), digest.as_mut_ptr()) };
-        digest
+        let mut room = [[GUARD; 32]; 3];
+        unsafe { scale_sha256(message.as_ptr(), message.len(), room[1].as_mut_ptr()) };
+        assert!(room[0] == [GUARD; 32] && room[2] == [GUARD; 32], "a byte beside the digest of {} bytes was changed", message.len());
+        room[1]
     }
 
     pub fn check_image(image: &[u8]) -> u32 {
