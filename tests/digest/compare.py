@@ -1,21 +1,26 @@
-"""compare.py DRIVER [SEED]: holds the driver's digests to those of hashlib, at every length from 0 to 300 and on random longer messages."""
+"""compare.py DRIVER [long] [SEED]: holds the driver's digests to those of hashlib, at every length from 0 to 300 and on random longer messages.
+The seed is fixed if it is not given; in the long mode it is the system's."""
 import hashlib
 import random
 import struct
 import subprocess
 import sys
 
-driver = sys.argv[1]
-seed = int(sys.argv[2]) if len(sys.argv) > 2 else random.SystemRandom().randrange(2**32)
+driver, *words = sys.argv[1:]
+long = words[:1] == ['long']
+given = words[long:]
+seed = int(given[0]) if given else random.SystemRandom().randrange(2**32) if long else 2026
+print('digest: seed %d (again: tests/digest/run %s%d)' % (seed, 'long ' if long else '', seed), flush=True)
 rng = random.Random(seed)
+times = 10 if long else 1
 messages = [rng.randbytes(length) for length in range(301)]
 # any length, and lengths about the end of a block
-messages += [rng.randbytes(rng.randrange(301, 100_000)) for _ in range(200)]
-messages += [rng.randbytes(64 * rng.randrange(5, 500) + near) for near in (-9, -8, -1, 0, 1) for _ in range(20)]
+messages += [rng.randbytes(rng.randrange(301, 100_000)) for _ in range(200 * times)]
+messages += [rng.randbytes(64 * rng.randrange(5, 500) + near) for near in (-9, -8, -1, 0, 1) for _ in range(20 * times)]
 messages += [rng.randbytes(rng.randrange(1_000_000, 5_000_000)) for _ in range(3)]
 sent = b''.join(struct.pack('<Q', len(m)) + m for m in messages)
 got = subprocess.run([driver], input=sent, stdout=subprocess.PIPE, check=True).stdout
-if len(got) != 32 * len(messages):
+if not messages or len(got) != 32 * len(messages):
     sys.exit('digest: %d bytes written for %d messages (seed %d)' % (len(got), len(messages), seed))
 for i, message in enumerate(messages):
     digest = got[32 * i:32 * i + 32]

@@ -1,4 +1,5 @@
-"""compare.py DRIVER [SEED]: holds the driver's answers to the model's, on images whole and damaged in every way, short and long."""
+"""compare.py DRIVER [long] [SEED]: holds the driver's answers to the model's, on images whole and damaged in every way, short and long.
+The seed is fixed if it is not given; in the long mode it is the system's."""
 import random
 import struct
 import subprocess
@@ -82,9 +83,9 @@ def edges(rng):
     yield model.image(rng, 32, 1 << 20)
 
 
-def cases(rng):
+def cases(rng, count):
     yield from edges(rng)
-    for _ in range(20_000):
+    for _ in range(count):
         lent = whole(rng)
         for _ in range(rng.choice([0, 1, 1, 1, 2, 3])):
             if len(lent) > 80 and 36 <= model.number(lent[4:6]) and places(lent)[1] <= len(lent):
@@ -93,9 +94,12 @@ def cases(rng):
 
 
 def main():
-    driver = sys.argv[1]
-    seed = int(sys.argv[2]) if len(sys.argv) > 2 else random.SystemRandom().randrange(2**32)
-    images = list(cases(random.Random(seed)))
+    driver, *words = sys.argv[1:]
+    long = words[:1] == ['long']
+    given = words[long:]
+    seed = int(given[0]) if given else random.SystemRandom().randrange(2**32) if long else 2026
+    print('image: seed %d (again: tests/image/run %s%d)' % (seed, 'long ' if long else '', seed), flush=True)
+    images = list(cases(random.Random(seed), 200_000 if long else 20_000))
     sent = b''.join(struct.pack('<Q', len(lent)) + lent for lent in images)
     run = subprocess.run([driver], input=sent, stdout=subprocess.PIPE, check=False)
     if run.returncode != 0 or len(run.stdout) != len(images):
