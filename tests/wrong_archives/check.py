@@ -119,7 +119,7 @@ def main():
     if faults:
         sys.exit(1)
     named = sum(len(edges) for _, edges, _ in wrong)
-    print(f"wrong archives: the model prints {len(EXPECTED)} lines as expected; {len(wrong)} wrong versions of it fail at the {named} lines they name")
+    print(f"wrong archives: the model prints {len(EXPECTED)} lines as expected; {len(wrong)} wrong versions fail at the {named} lines they name")
 
 
 main()
