@@ -4,6 +4,7 @@ pub mod Base
 pub mod BaseLaws
 pub mod Operations
 pub mod Harm
+pub mod HarmAllows
 pub mod Units
 pub mod Small
 pub mod AreaLaws
