@@ -2,6 +2,8 @@
 pub mod Demand3
 pub mod Statement
 pub mod Witness
+pub mod FailuresAllow
+pub mod HarmWitness
 -- its companions: refusal 8 never comes; damage; what changes; the length of an exchange; the starred edges
 pub mod Bridge
 pub mod Unerased

@@ -21,7 +21,7 @@ use Rattle.recovery.specs.Statement.{Due, by-test, by-permanent, by-reve
 use Rattle.recovery.specs.Edges.{small, slot, flash, accepts, ran}
 
 -- slot 1 marked for test; marked for good; slot 0 on trial, and slot 1 with no magic
-pub for-test : Flash
+unfoldable pub for-test : Flash
 for-test = flash (blank 1024) (slot [] [] magicBytes)
 
 pub for-good : Flash
@@ -46,13 +46,13 @@ unfolding on-trial ran accepts flash slot small base fits asked every valid deci
 revert-due = record { fits = refl; which = by-revert; decided = refl }
 
 -- the test exchange is cut inside its first erase of data, and leaves sevens in scratch's data sector
-sevens : List ℕ
+unfoldable pub sevens : List ℕ
 sevens = replicate 512 7
 
-pub harmed : Flash
+unfoldable pub harmed : Flash
 harmed = store scratch 0 sevens (run small 39 (exchange small false) for-test)
 
-in-force : inForce accepts small for-test ≡ exchange small false
+pub in-force : inForce accepts small for-test ≡ exchange small false
 unfolding for-test ran accepts flash slot small base fits asked every valid inForce listOf decide judged asks stepA stepB continue stateC
     written legal hasValue isUnset noMagic isGood markOf magicOf trailer magicBytes put part blank same
 in-force = refl
