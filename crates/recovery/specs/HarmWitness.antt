@@ -56,8 +56,8 @@ long slot0 = refl
 pub any-sector : (a : Area) (bytes : List ℕ) → length bytes ≡ 512 → Led small (inForce accepts small) for-test a 0 bytes
 unfolding small base
 any-sector a bytes l =
-    harm-anywhere small (inForce accepts small) never (test-due .fits) (erased-at a) (erase a (sectorNo 0)) (drop (suc (erased-at a)) (exchange small false))
-    (rw in-force (next-erase a)) (omega (arith, long a)) bytes l
+    harm-anywhere small (inForce accepts small) never (test-due .fits) (erased-at a) (erase a (sectorNo 0))
+    (drop (suc (erased-at a)) (exchange small false)) (rw in-force (next-erase a)) (omega (arith, long a)) bytes l
 
 pub any-unit : (a : Area) (bytes : List ℕ) → length bytes ≡ 1 → Led small (inForce accepts small) for-test a 511 bytes
 unfolding small base
