@@ -2,6 +2,7 @@ pub mod Lists
 pub mod Decision
 pub mod Examples
 pub mod AskedBefore
+pub mod States
 pub mod Asked
 pub mod DecisionLaws
 pub mod Bounds
