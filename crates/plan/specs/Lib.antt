@@ -1,6 +1,7 @@
 pub mod Lists
 pub mod Decision
 pub mod Examples
+pub mod EachOperation
 pub mod AskedBefore
 pub mod States
 pub mod Asked
