@@ -1,24 +1,26 @@
--- Document 01, "Edges to try": the starred edges of the image, by computing. The digest comes after `structure`, so a row says
--- which cause from 1 to 4 is met, or what passes to the digest: how many bytes it covers, and where it stands.
-use mathlib.Core.Path.{_≡_, refl}
-use mathlib.Core.List.{List, [], _∷_, _++_, map}
+-- Document 01, "Edges to try": the starred edges of the image, and the numbers of the causes, by computing. A row says the number of the
+-- cause that the check answers; or, since the digest comes after `structure`, what passes to it: how many bytes it covers, and where it
+-- stands.
+use mathlib.Core.Path.{refl}
+use mathlib.Core.List.{List, [], _∷_, _++_}
 use Prim.Native.Nat.{ℕ}
 use lib.ListN.{replicate}
 use Rattle.spans.specs.Bytes.{part}
+use Rattle.spans.specs.Table.{Row, row, Holds, no-more, and}
 use Rattle.fields.specs.Fields.{little, field}
 use Rattle.causes.specs.Header.{headerMagic, recordsSize, headerSize, bodySize, coveredSize, imageSize}
 use Rattle.records.specs.Records.{recordAt, stepAt, after, recordOf, firstThen, splitIn, records, digests}
-use Rattle.causes.specs.Check.{sizes, head, oneDigest, filled, layoutOf, withSizes, structure}
-use Rattle.causes.specs.declared.Cause.the-variants.{HeaderSizes, RecordsArea, DigestRecord}
-use Rattle.causes.specs.declared.Layout.{Layout}
-use Rattle.causes.specs.declared.Layout.the-variants.{Wrong, Sound}
+use Rattle.causes.specs.Check.{numberOf, causeOf, sizes, head, oneDigest, filled, layoutOf, withSizes, structure, digestAt, check}
+use Rattle.causes.specs.declared.Cause.the-variants.{DigestDiffers}
+use Rattle.causes.specs.declared.Layout.the-variants.{Sound}
+use Rattle.causes.specs.declared.Verdict.the-variants.{Accepted, Rejected}
 
-pub record Edge : Type 0 where
-  pub bytes : List ℕ
-  pub comes-to : Layout
+-- "The image check answers accepted or its cause": the number
+answer : List ℕ → ℕ
+answer xs = causeOf (check xs)
 
 -- 32 bytes of header that say these sizes, each below 256 but for a body of 256 times `high` bytes more
-header : ℕ → ℕ → ℕ → ℕ → List ℕ
+unfoldable pub header : ℕ → ℕ → ℕ → ℕ → List ℕ
 header records size body high =
     60 ∷ 184 ∷ 243 ∷ 150 ∷ records ∷ 0 ∷ 0 ∷ 0 ∷ size ∷ 0 ∷ 0 ∷ 0 ∷ body ∷ high ∷ 0 ∷ 0 ∷ replicate 16 0
 
@@ -32,24 +34,29 @@ empty = 2 ∷ 0 ∷ 0 ∷ 0 ∷ []
 body : ℕ → List ℕ
 body size = replicate size 85
 
-pub edges : List Edge
+pub edges : List Row
 edges =
-    -- header size 32 passes, 31 is cause 2
-    record { bytes = header 36 32 8 0 ++ body 8 ++ digest 32; comes-to = Sound 40 44 }
-    ∷ record { bytes = header 36 31 9 0 ++ body 8 ++ digest 32; comes-to = Wrong HeaderSizes }
-    -- sizes summing to m·s pass, one more is cause 2 (w 1, s 512, n 2: m·s is 512)
-    ∷ record { bytes = header 36 32 188 1 ++ body 444 ++ digest 32; comes-to = Sound 476 480 }
-    ∷ record { bytes = header 36 32 189 1 ++ body 444 ++ digest 32; comes-to = Wrong HeaderSizes }
-    -- records area 0 bytes: cause 4; 36 bytes with the digest record: passes to the digest; 38 with the same record first: cause 3
-    ∷ record { bytes = header 0 32 8 0 ++ body 8; comes-to = Wrong DigestRecord }
-    ∷ record { bytes = header 36 32 0 0 ++ digest 32; comes-to = Sound 32 36 }
-    ∷ record { bytes = header 38 32 8 0 ++ body 8 ++ digest 32 ++ (0 ∷ 0 ∷ []); comes-to = Wrong RecordsArea }
-    -- a digest record of length 31 filling its area: cause 4; an empty record of type 2 before it: no objection
-    ∷ record { bytes = header 35 32 8 0 ++ body 8 ++ digest 31; comes-to = Wrong DigestRecord }
-    ∷ record { bytes = header 40 32 8 0 ++ body 8 ++ empty ++ digest 32; comes-to = Sound 40 48 }
-    ∷ []
+    -- "Header size 32 passes, 31 is cause 2."
+    row (structure (header 36 32 8 0 ++ body 8 ++ digest 32)) (Sound 40 44)
+    ∷ row (answer (header 36 31 9 0 ++ body 8 ++ digest 32)) 2
+    -- "Sizes summing to m·s pass, one more is cause 2." (w 1, s 512, n 2: m·s is 512)
+    ∷ row (structure (header 36 32 188 1 ++ body 444 ++ digest 32)) (Sound 476 480)
+    ∷ row (answer (header 36 32 189 1 ++ body 444 ++ digest 32)) 2
+    -- "Records area 0 bytes: cause 4. 36 bytes with the digest record: passes to the digest. 38 with the same record first: cause 3."
+    ∷ row (answer (header 0 32 8 0 ++ body 8)) 4
+    ∷ row (structure (header 36 32 0 0 ++ digest 32)) (Sound 32 36)
+    ∷ row (answer (header 38 32 8 0 ++ body 8 ++ digest 32 ++ (0 ∷ 0 ∷ []))) 3
+    -- "A digest record of length 31 filling its area: cause 4. An empty record of type 2 before it: no objection."
+    ∷ row (answer (header 35 32 8 0 ++ body 8 ++ digest 31)) 4
+    ∷ row (structure (header 40 32 8 0 ++ body 8 ++ empty ++ digest 32)) (Sound 40 48)
+    -- "1. header magic wrong"; "fewer than 32 bytes lent (asked before cause 1)"; "5. the digest differs"; "accepted or its cause"
+    ∷ row (answer (replicate 32 0)) 1 ∷ row (answer (replicate 31 0)) 2
+    ∷ row (causeOf (Rejected DigestDiffers)) 5 ∷ row (causeOf Accepted) 0 ∷ []
 
-pub edges-hold : map (λ (e : Edge). structure (e .bytes)) edges ≡ map (λ (e : Edge). e .comes-to) edges
-unfolding edges header digest empty body part little field headerMagic recordsSize headerSize bodySize coveredSize imageSize
-    recordAt stepAt after recordOf firstThen splitIn records digests sizes head oneDigest filled layoutOf withSizes structure
-edges-hold = refl
+pub edges-hold : Holds edges
+unfolding edges answer header digest empty body part little field headerMagic recordsSize headerSize bodySize coveredSize imageSize recordAt
+    stepAt after recordOf firstThen splitIn records digests sizes head oneDigest filled layoutOf withSizes structure digestAt check causeOf
+    numberOf
+edges-hold =
+    and refl (and refl (and refl (and refl (and refl (and refl (and refl (and refl (and refl (and refl (and refl
+    (and refl (and refl no-more))))))))))))

@@ -6,3 +6,4 @@ pub mod LaidLaws
 pub mod CheckLaws
 pub mod StructureLaws
 pub mod Theorem
+pub mod Written
