@@ -1,2 +1,3 @@
 pub mod PowerUp
 pub mod Results
+pub mod Edges
