@@ -1,5 +1,6 @@
 pub mod Promise
 pub mod AsListed
+pub mod Causes
 pub mod Demand1
 pub mod Demand2
 pub mod Demand3

@@ -12,7 +12,7 @@ use Rattle.flash.specs.Operations.{Op, runAll}
 use Rattle.flash.specs.Harm.{Cut}
 use Rattle.trailer.specs.Trailer.{trailer, magicOf, isGood}
 use Rattle.plan.specs.declared.Course.{Course}
-use Rattle.plan.specs.declared.Course.the-variants.{FromLineThree, Resume}
+use Rattle.plan.specs.declared.Course.the-variants.{Damage, FromLineThree, Resume}
 use Rattle.plan.specs.Lists.{progress, linesOneTwo, linesThreeToSix, moveOps, dataOps, exchange}
 use Rattle.plan.specs.Decision.{stepB, stateC, asks, judged, decide, listOf, okUnset, inForce, foundOf}
 use Rattle.recovery.specs.All.{All, none, one, one-less}
@@ -46,6 +46,8 @@ pub data Where (g : Build) (f₀ f : Flash) : ℕ → Type 0 where
       → sectorOf g f b k ≡ moved (take (c - 3) (g .moves)) (sectorOf g f₀) b k) → Where g f₀ f c
 
 pub record Way (check : List ℕ → Bool) (g : Build) (p : Bool) (f₀ f : Flash) : Type 0 where
+  pub fits : valid g f ≡ true
+  pub undamaged : decide check g f ≡ Damage → ⊥
   pub short : length (inForce check g f) ≤ length (exchange g p)
   pub lies : Where g f₀ f (foundOf (decide check g f))
 
@@ -96,6 +98,11 @@ exchange-list g unset by-test = refl
 exchange-list g unset by-permanent = refl
 exchange-list g unset by-revert = refl
 
+no-damage : {course : Course} {p : Bool} → Exchange course p → course ≡ Damage → ⊥
+no-damage by-test e = let z : _≡_ {A = ℕ} 0 1 = cc in omega arith
+no-damage by-permanent e = let z : _≡_ {A = ℕ} 0 1 = cc in omega arith
+no-damage by-revert e = let z : _≡_ {A = ℕ} 0 1 = cc in omega arith
+
 not-found : {course : Course} {p : Bool} → Exchange course p → foundOf course ≡ 0
 unfolding foundOf
 not-found by-test = refl
@@ -116,9 +123,16 @@ module _ (check : List ℕ → Bool) {g : Build} (geo : Geo g) (sound : Sound g)
   unfolding SameLengths inForce
   planned f inv course e = rw (valid-same g f₀ f inv ∙ fits, e)
 
-  way : (f : Flash) (course : Course) (ops : List Op) → inForce check g f ≡ ops → decide check g f ≡ course
-      → length ops ≤ length (exchange g p) → Where g f₀ f (foundOf course) → Way check g p f₀ f
-  way f course ops i e l x = record { short = rw i l; lies = subst (Where g f₀ f) (sym (ap foundOf e)) x }
+  way : (f : Flash) → SameLengths f₀ f → (course : Course) → (course ≡ Damage → ⊥) → (ops : List Op) → inForce check g f ≡ ops
+      → decide check g f ≡ course → length ops ≤ length (exchange g p) → Where g f₀ f (foundOf course) → Way check g p f₀ f
+  unfolding SameLengths
+  way f inv course n ops i e l x =
+      record {
+        fits = valid-same g f₀ f inv ∙ fits;
+        undamaged = λ d. n (sym e ∙ d);
+        short = rw i l;
+        lies = subst (Where g f₀ f) (sym (ap foundOf e)) x;
+      }
 
   follow-moves : {c : ℕ} {ms : List Move} {clean : Flash} → At g f₀ c ms clean → (f : Flash) → Under g c f → SameLengths f₀ f
       → ((b : Area) (k : Sector) → Spared ms b k → sectorOf g f b k ≡ sectorOf g clean b k)
@@ -128,7 +142,7 @@ module _ (check : List ℕ → Bool) {g : Build} (geo : Geo g) (sound : Sound g)
       let e : decide check g f ≡ Resume c = resumes geo check sound f (a .enough) (omega (arith, a .total)) u in
       let i : inForce check g f ≡ dataOps g c ms = planned f inv (Resume c) e ∙ ap (dataOps g c) (a .left) in (
         i ∙ sym (all-data geo c ms),
-        way f (Resume c) (dataOps g c ms) i e (rest-short g p c ms (omega (arith, a .total, a .enough)))
+        way f inv (Resume c) (λ d. let z : _≡_ {A = ℕ} 0 1 = cc in omega arith) (dataOps g c ms) i e (rest-short g p c ms (omega (arith, a .total, a .enough)))
             (amid (a .enough) (λ b k l q. h b k (λ m rest r. q m rest (a .left ∙ r)) ∙ a .sectors b k l)),
       )
 
@@ -186,7 +200,7 @@ module _ (check : List ℕ → Bool) {g : Build} (geo : Geo g) (sound : Sound g)
       step-A-taken f (ap (λ x. drop (dataSectors g scratch * g .sector) (x .in2)) l ∙ trailer-begin geo p f₀ (sized scratch)) in
       let i : inForce check g f ≡ rest = planned f inv (FromLineThree p) e in (
         i ∙ ap (λ (x : List Op). linesThreeToSix g p ++ x) (sym (all-data geo 3 (g .moves))),
-        way f (FromLineThree p) rest i e (settle-short g p) (before (λ b k h.
+        way f inv (FromLineThree p) (λ d. let z : _≡_ {A = ℕ} 0 1 = cc in omega arith) rest i e (settle-short g p) (before (λ b k h.
             sector-both geo b k f started h l ∙ sector-same geo scratch b k started f₀ h (hidden-run (hidden-begin geo p) f₀))),
       )
 
@@ -200,7 +214,7 @@ module _ (check : List ℕ → Bool) {g : Build} (geo : Geo g) (sound : Sound g)
       same-decision f f₀ (ap (λ x. x .in0) (l .alike)) (ap (λ x. x .in1) (l .alike)) (l .quiet) quiet ∙ due in
       let i : inForce check g f ≡ exchange g p = planned f inv course e ∙ exchange-list g (okUnset g f) which in (
         i ∙ sym all-exchange,
-        way f course (exchange g p) i e (omega arith)
+        way f inv course (no-damage which) (exchange g p) i e (omega arith)
             (subst (Where g f₀ f) (sym (not-found which)) (before (λ b k h. sector-same geo scratch b k f f₀ h (l .alike)))),
       )
 
