@@ -7,3 +7,5 @@ pub mod Demand3
 pub mod Boots
 pub mod Starred
 pub mod LeastAllowance
+pub mod MarkLists
+pub mod Marking

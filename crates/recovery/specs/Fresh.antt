@@ -103,7 +103,7 @@ module _ {g : Build} (geo : Geo g) where
   fresh-ok a true f e = fresh-mark a (okAt g) 1 f (ok-unit geo) (e refl) end
   fresh-ok a false f e = end
 
-  fresh-magic : (a : Area) (f : Flash) → part (trailer g a f) (magicAt g .0) 16 ≡ blank 16 → Fresh g (magicOps g a) f
+  pub fresh-magic : (a : Area) (f : Flash) → part (trailer g a f) (magicAt g .0) 16 ≡ blank 16 → Fresh g (magicOps g a) f
   unfolding magicOps
   fresh-magic a f e =
       let u : Unit = trailerUnit g a (magicAt g) in
@@ -111,14 +111,15 @@ module _ {g : Build} (geo : Geo g) where
       (trailer-part g a f u (magicAt g .0) (16 / g .unit * g .unit) (unit-back geo a (magicAt g) (magic-unit geo))
       ∙ rw (magic-units geo) e)
 
-  -- image ok and marks leave the place of the magic erased
-  tail-ok : (p : Bool) → part (withOk g p (blank (g .sector))) (magicAt g .0) 16 ≡ blank 16
+  -- image ok and marks leave the place of the magic as it is, and erased
+  pub magic-behind-ok : (p : Bool) (t : List ℕ) → part (withOk g p t) (magicAt g .0) 16 ≡ part t (magicAt g .0) 16
   unfolding withOk
-  tail-ok true =
-      part-put-after (blank (g .sector)) (okAt g .0) (markBytes g 1) (magicAt g .0) 16
-      (omega (arith, length-mark geo 1, unit-small geo))
-      ∙ part-blank (g .sector) (magicAt g .0) 16 (omega arith)
-  tail-ok false = part-blank (g .sector) (magicAt g .0) 16 (omega arith)
+  magic-behind-ok true t =
+      part-put-after t (okAt g .0) (markBytes g 1) (magicAt g .0) 16 (omega (arith, length-mark geo 1, unit-small geo, geo .room))
+  magic-behind-ok false t = refl
+
+  tail-ok : (p : Bool) → part (withOk g p (blank (g .sector))) (magicAt g .0) 16 ≡ blank 16
+  tail-ok p = magic-behind-ok p (blank (g .sector)) ∙ part-blank (g .sector) (magicAt g .0) 16 (omega arith)
 
   tail-progress : (c : ℕ) (f : Flash) → c < 3 * g .sectors → part (trailer g slot0 f) (magicAt g .0) 16 ≡ blank 16
       → part (trailer g slot0 (apply g (progress g c) f)) (magicAt g .0) 16 ≡ blank 16
