@@ -9,3 +9,5 @@ pub mod Starred
 pub mod LeastAllowance
 pub mod MarkLists
 pub mod Marking
+pub mod MarkedNext
+pub mod ConfirmedNext

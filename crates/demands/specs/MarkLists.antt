@@ -3,11 +3,10 @@
 use mathlib.Core.Path.{_≡_, refl, sym, ap, _∙_}
 use mathlib.Core.List.{List, _++_}
 use mathlib.Core.Bool.{Bool, true, false, false≢true}
-use Prim.Native.Nat.{ℕ, _*_, _/_}
-use native.Mathlib.Omega.{arith}
+use Prim.Native.Nat.{ℕ, _/_}
 use Rattle.spans.specs.Bytes.{part, put, blank, same}
 use Rattle.spans.specs.Choice.{pick}
-use Rattle.spans.specs.Laws.{same-eq, part-put-after}
+use Rattle.spans.specs.Laws.{same-eq}
 use Rattle.flash.specs.declared.Offset.{Offset}
 use Rattle.flash.specs.Geometry.{startOf, after}
 use Rattle.flash.specs.Build.{Area, Build, geometry, Flash, area, with-area, trailerSector}
@@ -16,10 +15,9 @@ use Rattle.flash.specs.AreaLaws.{with-own, store-store}
 use Rattle.trailer.specs.declared.Magic.{Magic}
 use Rattle.trailer.specs.Trailer.{trailer, magicAt, okAt, magicBytes, magicOf, noMagic, markOf, markBytes, isUnset}
 use Rattle.plan.specs.Lists.{trailerUnit, mark, okOps, magicOps}
-use Rattle.recovery.specs.Cuts.{runAll-append}
-use Rattle.recovery.specs.Places.{Geo, unit-back, unit-small, magic-unit, magic-units, ok-unit, length-mark, writes-all}
+use Rattle.recovery.specs.Places.{Geo, unit-back, magic-unit, magic-units, ok-unit, writes-all}
 use Rattle.recovery.specs.Reading.{unset-blank}
-use Rattle.recovery.specs.Begin.{withOk, trailer-ok}
+use Rattle.recovery.specs.Begin.{trailer-ok}
 use Rattle.recovery.specs.Fresh.{Fresh, fresh-append, fresh-ok, fresh-magic, magic-behind-ok}
 
 -- where an offset into the trailer sector of an area stands in the area

@@ -2,20 +2,19 @@
 -- for byte, with its count; every refusal leaves the areas as before, with count 0, and 8 is none of them.
 use mathlib.Core.Path.{_≡_, refl, sym, ap, subst, _∙_}
 use mathlib.Core.List.{List, [], _∷_, _++_}
-use mathlib.Core.Bool.{Bool, true, false, _||_, _&&_}
+use mathlib.Core.Bool.{Bool, true, false, _||_}
 use Prim.Native.Nat.{ℕ, _+_, _-_, _/_}
 use native.Mathlib.Omega.{arith}
 use lib.ListN.{length}
-use lib.Dec.{eqb, ltb}
+use lib.Dec.{eqb}
 use borrow.Author.Tests.{le-ltb}
 use Rattle.spans.specs.Choice.{pick, both}
 use Rattle.flash.specs.declared.Geometry.{Geometry}
-use Rattle.flash.specs.declared.End.the-variants.{Going, Stopped}
-use Rattle.flash.specs.Build.{slot0, slot1, Build, Flash, area, with-area, valid}
+use Rattle.flash.specs.Build.{slot0, slot1, Flash, valid}
 use Rattle.flash.specs.Base.{base, build}
-use Rattle.flash.specs.Operations.{Op, State, run, runAll, start, steps}
+use Rattle.flash.specs.Operations.{Op, runAll}
 use Rattle.trailer.specs.Trailer.{trailer, okAt, copyDoneAt, magicOf, isGood, noMagic, markOf, isUnset, hasValue}
-use Rattle.plan.specs.Asked.{flashOf}
+use Rattle.plan.specs.Asked.{flashOf, askedBy}
 use Rattle.plan.specs.Lists.{okOps, magicOps}
 use Rattle.plan.specs.Lengths.{one-if, length-ok}
 use Rattle.recovery.specs.Cuts.{run-all}
@@ -29,6 +28,8 @@ use Rattle.answers.specs.declared.Ending.{Ending}
 use Rattle.answers.specs.declared.Marked.{Marked}
 use Rattle.answers.specs.Numbers.{refusalNumber}
 use Rattle.marking.specs.Marking.{MarkResult, refusedMark, endingOf, wroteAll, unlessRefused, unmarked, markUnlessMarked, marking, confirmable, confirmIfNeeded, confirming}
+use Rattle.marking.specs.declared.taken.Standing.{Standing}
+use Rattle.marking.specs.Standing.{standingOf}
 use Rattle.marking.specs.MarkLaws.{length-marking}
 use Rattle.marking.specs.Counts.{by-refusals}
 use Rattle.demands.specs.Promise.{Marks}
@@ -44,6 +45,11 @@ pub data MarkEnds (numbers : List ℕ) (count : ℕ) (f whole : Flash) (a : Mark
   writes : a .ending ≡ Ending.Written → a .count ≡ count → f' ≡ whole → MarkEnds numbers count f whole a f'
   refuses : (r : Refusal) → oneOf numbers (refusalNumber r) ≡ true → a .ending ≡ Ending.Refused r → a .count ≡ 0 → f' ≡ f
       → MarkEnds numbers count f whole a f'
+
+pub whole-areas : {numbers : List ℕ} {count : ℕ} {f whole f' : Flash} {a : Marked} → MarkEnds numbers count f whole a f'
+    → a .ending ≡ Ending.Written → f' ≡ whole
+whole-areas (writes e c h) w = h
+whole-areas (refuses r n e c h) w = absurd (let z : _≡_ {A = ℕ} 0 1 = cc in omega arith)
 
 -- ---- a list whose units are erased is written whole
 
@@ -104,21 +110,57 @@ marking-ends p {g} {f} q =
 
 -- ---- confirming: one operation; slot 0 alone changes, in it image ok
 
+pub confirming-needs : (g : Geometry) (f : Flash) → confirmable g f ≡ true → (isGood (magicOf (build g) (trailer (build g) slot0 f)) ≡ true)
+    × ((hasValue 1 (markOf (build g) (trailer (build g) slot0 f) (copyDoneAt (build g))) ≡ true)
+    × (isUnset (markOf (build g) (trailer (build g) slot0 f) (okAt (build g))) ≡ true))
+unfolding confirmable
+confirming-needs g f c =
+    let t : List ℕ = trailer (build g) slot0 f in
+    let b = both (isGood (magicOf (build g) t)) _ c in
+    (b .0, both (hasValue 1 (markOf (build g) t (copyDoneAt (build g)))) _ (b .1))
+
 -- "Confirming: 1, 2, 6, 7."
 pub confirming-ends : {g : Geometry} {f f' : Flash} {a : Marked} → Marks confirming g f a f'
     → MarkEnds (1 ∷ 2 ∷ 6 ∷ 7 ∷ []) 1 f (flashOf (okPut (build g) slot0 true (f .in0)) (f .in1) (f .in2)) a f'
-unfolding confirming confirmIfNeeded confirmable oneOf refusalNumber
+unfolding confirming confirmIfNeeded oneOf refusalNumber
 confirming-ends {g} {f} q =
     let t : List ℕ = trailer (build g) slot0 f in
     let whole : Flash = flashOf (okPut (build g) slot0 true (f .in0)) (f .in1) (f .in2) in
     promised-ends confirming 7 1 f whole (confirmIfNeeded g f) q refl (λ geo.
     needed-ends (1 ∷ 2 ∷ 6 ∷ 7 ∷ []) 1 f whole Refusal.Needs g (okOps (build g) slot0 true) (confirmable g f) refl
     (length-ok (build g) slot0 true) (run-ok geo slot0 true f)
-    (λ c. fresh-ok geo slot0 true f (λ e. unset-blank (build g) t (okAt (build g)) (unset t c))))
+    (λ c. fresh-ok geo slot0 true f (λ e. unset-blank (build g) t (okAt (build g)) (confirming-needs g f c .1 .1))))
+
+-- ---- all is written exactly where document 01 allows it
+
+pub record Allowed (g : Geometry) (f : Flash) (needs : Bool) : Type 0 where
+  pub fits : valid (build g) f ≡ true
+  pub free : standingOf (askedBy g f) ≡ Standing.Free
+  pub met : needs ≡ true
+
+written-allowed : (g : Geometry) (f : Flash) (needs : Bool) (ops : List Op) (r : Refusal)
+    → unlessRefused g f (pick needs (wroteAll g ops f) (refusedMark r f)) .answer .ending ≡ Ending.Written → Allowed g f needs
+unfolding refusedMark
+written-allowed g f needs ops r =
+    by-refusals (λ m. m .answer .ending ≡ Ending.Written → Allowed g f needs) g f (pick needs (wroteAll g ops f) (refusedMark r f))
+    (λ h. absurd (let z : _≡_ {A = ℕ} 0 1 = cc in omega arith)) (λ h. absurd (let z : _≡_ {A = ℕ} 0 1 = cc in omega arith))
+    (λ h. absurd (let z : _≡_ {A = ℕ} 0 1 = cc in omega arith)) (λ v s. go needs refl v s)
   where
-    unset : (t : List ℕ) → (isGood (magicOf (build g) t) && (hasValue 1 (markOf (build g) t (copyDoneAt (build g))) && isUnset
-        (markOf (build g) t (okAt (build g))))) ≡ true → isUnset (markOf (build g) t (okAt (build g))) ≡ true
-    unset t c =
-        let b = both (isGood (magicOf (build g) t)) (hasValue 1 (markOf (build g) t (copyDoneAt (build g))) && isUnset
-        (markOf (build g) t (okAt (build g)))) c in
-        both (hasValue 1 (markOf (build g) t (copyDoneAt (build g)))) (isUnset (markOf (build g) t (okAt (build g)))) (b .1) .1
+    go : (b : Bool) → needs ≡ b → valid (build g) f ≡ true → standingOf (askedBy g f) ≡ Standing.Free
+        → pick b (wroteAll g ops f) (refusedMark r f) .answer .ending ≡ Ending.Written → Allowed g f needs
+    go true e v s h = record { fits = v; free = s; met = e }
+    go false e v s h = absurd (let z : _≡_ {A = ℕ} 0 1 = cc in omega arith)
+
+pub marking-allowed : (p : Bool) {g : Geometry} {f f' : Flash} {a : Marked} → Marks (marking p) g f a f' → a .ending ≡ Ending.Written
+    → Allowed g f (unmarked g f)
+unfolding marking markUnlessMarked
+marking-allowed p {g} {f} q h =
+    written-allowed g f (unmarked g f) (okOps (build g) slot1 p ++ magicOps (build g) slot1) Refusal.Marks
+    (ap (λ (r : MarkResult). r .answer .ending) (sym (q .promised)) ∙ h)
+
+pub confirming-allowed : {g : Geometry} {f f' : Flash} {a : Marked} → Marks confirming g f a f' → a .ending ≡ Ending.Written
+    → Allowed g f (confirmable g f)
+unfolding confirming confirmIfNeeded
+confirming-allowed {g} {f} q h =
+    written-allowed g f (confirmable g f) (okOps (build g) slot0 true) Refusal.Needs
+    (ap (λ (r : MarkResult). r .answer .ending) (sym (q .promised)) ∙ h)

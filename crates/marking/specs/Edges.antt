@@ -1,12 +1,12 @@
 -- Marking and confirming with document 01's numbers: refusals, counts, and what the areas then hold. One table, closed by computing.
 use mathlib.Core.Path.{refl}
-use mathlib.Core.List.{List, [], _∷_}
+use mathlib.Core.List.{List, [], _∷_, _++_}
 use mathlib.Core.Bool.{true, false}
 use Prim.Native.Nat.{ℕ}
 use lib.ListN.{take}
 use Rattle.spans.specs.Bytes.{part, put, blank, same}
 use Rattle.spans.specs.Choice.{every}
-use Rattle.spans.specs.Table.{Row, row, Holds, no-more, and}
+use Rattle.spans.specs.Table.{Row, row, Holds, no-more, and, holds-append}
 use Rattle.flash.specs.declared.Geometry.{Geometry}
 use Rattle.flash.specs.Build.{Flash, asked, fits, valid}
 use Rattle.flash.specs.Base.{threeMoves, allMoves, base}
@@ -51,9 +51,12 @@ clean = area [] [] [] []
 good : List ℕ
 good = area [] [] [] magicBytes
 
--- slot 0 after an exchange, on trial; and while sectors are moved
+-- slot 0 after an exchange, on trial and confirmed; and while sectors are moved
 trial : List ℕ
 trial = area (1 ∷ 2 ∷ 3 ∷ []) (1 ∷ []) [] magicBytes
+
+confirmed : List ℕ
+confirmed = area (1 ∷ 2 ∷ 3 ∷ []) (1 ∷ []) (1 ∷ []) magicBytes
 
 moving : List ℕ
 moving = area (1 ∷ 2 ∷ 3 ∷ []) [] [] magicBytes
@@ -65,27 +68,39 @@ damaged = area [] [] (2 ∷ []) magicBytes
 halfMarked : List ℕ
 halfMarked = area (1 ∷ []) [] [] magicBytes
 
-pub edges : List Row
-edges =
-    -- "Marking slot 1 (test or permanent) writes image ok 01 if permanent, then magic."
+-- what is written, and its count
+done : List Row
+done =
+    -- "Marking slot 1 (test or permanent) writes image ok 01 if permanent, then magic." Copy done of slot 1 has no part in it.
     succeeds test (flashOf clean clean clean) 16 (flashOf clean good clean)
     ∷ succeeds permanent (flashOf clean clean clean) 17 (flashOf clean (area [] [] (1 ∷ []) magicBytes) clean)
     ∷ succeeds test (flashOf trial (area [] (2 ∷ []) [] []) clean) 16 (flashOf trial (area [] (2 ∷ []) [] magicBytes) clean)
+    -- "Confirming writes slot 0 image ok 01". What slot 1 is marked for has no part in it.
+    ∷ succeeds confirming (flashOf trial clean clean) 1 (flashOf confirmed clean clean)
+    ∷ succeeds confirming (flashOf trial good clean) 1 (flashOf confirmed good clean) ∷ []
+
+done-hold : Holds done
+unfolding done succeeds call says test permanent area clean good trial confirmed marking confirming unlessRefused unlessUnderWay
+    markUnlessMarked unmarked confirmIfNeeded confirmable wroteAll endingOf refusedMark markedNumbers endingRefusal refusalNumber valid fits
+    asked every asks stepA stepB continue stateC written legal hasValue isUnset noMagic isGood markOf markBytes magicOf trailer magicBytes
+    writes magicOps okOps attempt erased writeIn step steps base threeMoves allMoves put part blank same
+done-hold = and refl (and refl (and refl (and refl (and refl no-more))))
+
+-- "Marking: 1, 2, 6, 5. Confirming: 1, 2, 6, 7."
+refused : List Row
+refused =
     -- 5: "image ok or magic of slot 1 not Unset"
-    ∷ refuses test (flashOf clean good clean) 5
+    refuses test (flashOf clean good clean) 5
     ∷ refuses test (flashOf clean (area [] [] [] (take 2 magicBytes)) clean) 5
     ∷ refuses test (flashOf clean (area [] [] (1 ∷ []) []) clean) 5
     ∷ refuses permanent (flashOf clean (area [] [] (1 ∷ []) []) clean) 5
-    -- "Confirming writes slot 0 image ok 01"
-    ∷ succeeds confirming (flashOf trial clean clean) 1 (flashOf (area (1 ∷ 2 ∷ 3 ∷ []) (1 ∷ []) (1 ∷ []) magicBytes) clean clean)
-    ∷ succeeds confirming (flashOf trial good clean) 1 (flashOf (area (1 ∷ 2 ∷ 3 ∷ []) (1 ∷ []) (1 ∷ []) magicBytes) good clean)
     -- 7: "it needs slot 0 magic Good, copy done 01, image ok Unset"
     ∷ refuses confirming (flashOf clean clean clean) 7
     ∷ refuses confirming (flashOf (area [] (1 ∷ []) [] (take 2 magicBytes)) clean clean) 7
     ∷ refuses confirming (flashOf (area [] (1 ∷ []) [] []) clean clean) 7
     ∷ refuses confirming (flashOf good clean clean) 7
     ∷ refuses confirming (flashOf (area [] (2 ∷ []) [] magicBytes) clean clean) 7
-    ∷ refuses confirming (flashOf (area [] (1 ∷ []) (1 ∷ []) magicBytes) clean clean) 7
+    ∷ refuses confirming (flashOf confirmed clean clean) 7
     -- 6: "exchange under way (A, or B with c at least 3)", asked before 5 and 7
     ∷ refuses test (flashOf clean good good) 6 ∷ refuses permanent (flashOf clean clean good) 6
     ∷ refuses confirming (flashOf clean clean good) 6 ∷ refuses confirming (flashOf trial clean good) 6
@@ -98,12 +113,19 @@ edges =
     ∷ row (call confirming 3 (flashOf clean clean damaged)) (says 1 0 (flashOf clean clean damaged))
     ∷ refuses test (flashOf clean (blank 1023) clean) 1 ∷ refuses confirming (flashOf trial clean (blank 1025)) 1 ∷ []
 
+refused-hold : Holds refused
+unfolding refused refuses call says test permanent area clean good trial confirmed moving damaged halfMarked marking confirming
+    unlessRefused unlessUnderWay markUnlessMarked unmarked confirmIfNeeded confirmable wroteAll endingOf refusedMark markedNumbers
+    endingRefusal refusalNumber valid fits asked every asks stepA stepB continue stateC written legal hasValue isUnset noMagic isGood markOf
+    markBytes magicOf trailer magicBytes writes magicOps okOps attempt erased writeIn step steps base threeMoves allMoves put part blank same
+refused-hold =
+    and refl (and refl (and refl (and refl (and refl (and refl (and refl (and refl (and refl (and refl (and refl (and refl
+    (and refl (and refl (and refl (and refl (and refl (and refl (and refl (and refl (and refl (and refl (and refl (and refl
+    no-more)))))))))))))))))))))))
+
+pub edges : List Row
+edges = done ++ refused
+
 pub edges-hold : Holds edges
-unfolding edges succeeds refuses call says test permanent area clean good trial moving damaged halfMarked marking confirming unlessRefused
-    unlessUnderWay markUnlessMarked unmarked confirmIfNeeded confirmable wroteAll endingOf refusedMark markedNumbers endingRefusal
-    refusalNumber valid fits asked every asks stepA stepB continue stateC written legal hasValue isUnset noMagic isGood markOf markBytes
-    magicOf trailer magicBytes writes magicOps okOps attempt erased writeIn step steps base threeMoves allMoves put part blank same
-edges-hold =
-    and refl (and refl (and refl (and refl (and refl (and refl (and refl (and refl (and refl (and refl (and refl
-    (and refl (and refl (and refl (and refl (and refl (and refl (and refl (and refl (and refl (and refl (and refl
-    (and refl (and refl (and refl (and refl (and refl (and refl (and refl no-more))))))))))))))))))))))))))))
+unfolding edges
+edges-hold = holds-append done-hold refused-hold

@@ -13,7 +13,8 @@ use Rattle.flash.specs.Geometry.{nextUnit}
 use Rattle.flash.specs.Build.{Area, scratch, Build, Flash, area, dataSectors}
 use Rattle.flash.specs.Operations.{Op, write, store, apply, runAll}
 use Rattle.flash.specs.Harm.{Cut, here, later}
-use Rattle.trailer.specs.Trailer.{magicBytes, trailer, magicAt, okAt, magicOf, markBytes, isGood, isUnset, hasValue}
+use Rattle.trailer.specs.declared.Mark.{Mark}
+use Rattle.trailer.specs.Trailer.{magicBytes, trailer, magicAt, okAt, magicOf, markOf, markBytes, isGood, isUnset, hasValue}
 use Rattle.plan.specs.declared.Course.the-variants.{FromLineThree}
 use Rattle.plan.specs.Lists.{trailerUnit, eraseTrailer, writes, magicOps, okOps, linesOneTwo}
 use Rattle.plan.specs.Decision.{stepA}
@@ -102,6 +103,32 @@ unfoldable pub withOk : Build → Bool → List ℕ → List ℕ
 withOk g true t = put t (okAt g .0) (markBytes g 1)
 withOk g false t = t
 
+-- what is read where magic was written behind image ok
+module _ {g : Build} (geo : Geo g) (t : List ℕ) (s : length t ≡ g .sector) where
+  pub marked-good : (p : Bool) → isGood (magicOf g (put (withOk g p t) (magicAt g .0) magicBytes)) ≡ true
+  unfolding withOk magicBytes
+  marked-good p =
+      good-read geo (put (withOk g p t) (magicAt g .0) magicBytes)
+      (part-put (withOk g p t) (magicAt g .0) magicBytes 16 refl (omega (arith, size p, geo .room)))
+    where
+      size : (p : Bool) → length (withOk g p t) ≡ g .sector
+      size true = length-put t (okAt g .0) (markBytes g 1) ∙ s
+      size false = s
+
+  before-magic : (xs : List ℕ) → part (put xs (magicAt g .0) magicBytes) (okAt g .0) (g .unit) ≡ part xs (okAt g .0) (g .unit)
+  before-magic xs = part-put-before xs (magicAt g .0) magicBytes (okAt g .0) (g .unit) (omega (arith, unit-small geo, geo .room))
+
+  pub marked-01 : markOf g (put (withOk g true t) (magicAt g .0) magicBytes) (okAt g) ≡ Mark.Value 1
+  unfolding withOk
+  marked-01 =
+      value-read geo (put (withOk g true t) (magicAt g .0) magicBytes) (okAt g) 1 (omega arith)
+      (before-magic (withOk g true t)
+      ∙ part-put t (okAt g .0) (markBytes g 1) (g .unit) (length-mark geo 1) (omega (arith, unit-small geo, geo .room)))
+
+  pub marked-unset : part (put (withOk g false t) (magicAt g .0) magicBytes) (okAt g .0) (g .unit) ≡ part t (okAt g .0) (g .unit)
+  unfolding withOk
+  marked-unset = before-magic t
+
 -- scratch's trailer sector after line 2
 unfoldable pub begun : Build → Bool → List ℕ
 begun g p = put (withOk g p (blank (g .sector))) (magicAt g .0) magicBytes
@@ -128,27 +155,12 @@ module _ {g : Build} (geo : Geo g) where
       (trailer-ok scratch p f₁ ∙ ap (withOk g p) (trailer-clear geo scratch f s))
 
   pub begun-good : (p : Bool) → isGood (magicOf g (begun g p)) ≡ true
-  unfolding begun withOk magicBytes
-  begun-good p = good-read geo (begun g p)
-      (part-put (withOk g p (blank (g .sector))) (magicAt g .0) magicBytes 16 refl (omega (arith, size p)))
-    where
-      size : (p : Bool) → length (withOk g p (blank (g .sector))) ≡ g .sector
-      size true = length-put (blank (g .sector)) (okAt g .0) (markBytes g 1) ∙ length-blank (g .sector)
-      size false = length-blank (g .sector)
+  unfolding begun
+  begun-good p = marked-good geo (blank (g .sector)) (length-blank (g .sector)) p
 
   pub step-A : (p : Bool) → stepA g (begun g p) ≡ FromLineThree p
-  unfolding stepA begun withOk isUnset hasValue
-  step-A true = rw (value-read geo (begun g true) (okAt g) 1 (omega arith) read)
-    where
-      read : part (begun g true) (okAt g .0) (g .unit) ≡ markBytes g 1
-      read =
-          part-put-before (put (blank (g .sector)) (okAt g .0) (markBytes g 1)) (magicAt g .0) magicBytes (okAt g .0) (g .unit)
-          (omega (arith, unit-small geo))
-          ∙ part-put (blank (g .sector)) (okAt g .0) (markBytes g 1) (g .unit) (length-mark geo 1)
-          (omega (arith, length-blank (g .sector), unit-small geo))
-  step-A false = rw (unset-read geo (begun g false) (okAt g) read)
-    where
-      read : part (begun g false) (okAt g .0) (g .unit) ≡ blank (g .unit)
-      read =
-          part-put-before (blank (g .sector)) (magicAt g .0) magicBytes (okAt g .0) (g .unit) (omega (arith, unit-small geo))
-          ∙ part-blank (g .sector) (okAt g .0) (g .unit) (omega (arith, unit-small geo))
+  unfolding stepA begun isUnset hasValue
+  step-A true = rw (marked-01 geo (blank (g .sector)) (length-blank (g .sector)))
+  step-A false = rw (unset-read geo (begun g false) (okAt g)
+      (marked-unset geo (blank (g .sector)) (length-blank (g .sector))
+      ∙ part-blank (g .sector) (okAt g .0) (g .unit) (omega (arith, unit-small geo))))
