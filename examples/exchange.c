@@ -1,6 +1,7 @@
 /*
  * A firmware update from sending to confirming, with power failures: a new image is put into slot 1 and marked for a test, the scale
- * starts again and again while its power lasts for 700 operations only, boots the new firmware, which confirms itself.
+ * starts again and again while its power lasts for 700 operations only, boots the new firmware, which confirms itself. That is the allowance of
+ * each start; with fewer than SECTOR / UNIT + 2 the exchange would never end.
  *
  *   cc -std=c99 -Iinclude examples/exchange.c target/staticlib/libscale.a -o exchange
  */
@@ -82,7 +83,7 @@ int main(void)
         again = print_answer(what, scale_power_up(UNIT, SECTOR, SECTORS, slot0, SLOT, slot1, SLOT, scratch, 2 * SECTOR, 700));
     }
 
-    printf("slot 0 runs: %.10s\n", (const char *)slot0 + HEADER);
+    printf("slot 0 runs: %.10s; slot 1 keeps: %.10s\n", (const char *)slot0 + HEADER, (const char *)slot1 + HEADER);
     print_marked("confirm", scale_confirm(UNIT, SECTOR, SECTORS, slot0, SLOT, slot1, SLOT, scratch, 2 * SECTOR));
 
     print_answer("checked start",

@@ -1,9 +1,21 @@
 /*
  * Scale loader: the C boundary.
  *
- * Link with libscale.a (x86-64, System V). The library keeps no state, allocates nothing, calls nothing but memcpy and memset, and
- * carries nothing over from one call to the next but the bytes of the areas. Every function is total: there is no argument value that
- * is undefined, except that each pointer must be good for its length (see "Memory" below).
+ * Link with libscale.a: machine code for x86-64 (64-bit, System V calls), for host tools, simulators and test benches. The library
+ * works on flash that is lent to it as plain memory. It keeps no state, allocates nothing, and calls nothing but memset (`nm -u libscale.a`
+ * shows that one name). It carries nothing over from one call to the next but the bytes of the areas. Every function is total: there is no
+ * argument value that is undefined, except that each pointer must be good for its length (see "Memory" below).
+ *
+ * Power failure: what the board owes
+ * ----------------------------------
+ * No update is lost by power failures IF the board finishes one operation on a trailer sector after its power fails: the write of a unit or
+ * the erase of that sector, which takes longest. A capacitor does it. Data sectors need no such care: half an erase or half a write of them is
+ * done again at the next start.
+ *
+ * Without that, random bytes where a trailer operation was cut do this: a progress mark ends in refusal 2 (the firmware is then in parts);
+ * copy done leaves the new firmware running and not on trial, so that nothing brings the old one back; the other trailer operations are taken
+ * up again, unless the erase of scratch's trailer left its magic and spoilt its image ok, which is refusal 2. docs/ARCHITECTURE.md has all that
+ * a board owes.
  *
  * The flash
  * ---------
@@ -15,10 +27,49 @@
  *   sectors  sectors in a slot, n: 2 to 128
  *
  * Slot 0 and slot 1 are exactly n * s bytes each and scratch exactly 2 * s; any other length, longer ones too, is refusal 1. The last
- * sector of each area is its trailer sector. The first n - 1 sectors of a slot hold its image.
+ * sector of each area is its trailer sector, where the loader keeps its marks. The m = n - 1 sectors before it in a slot hold its image.
  *
  * An operation is one of two: erase one sector (all bytes become 0xff), or write one unit whose bytes are all 0xff. Counts and
- * allowances are numbers of operations.
+ * allowances are numbers of operations. An allowance is the most that a start may carry out: see scale_power_up.
+ *
+ * The trailer
+ * -----------
+ * In the last sector of each area. Places are counted in bytes from the end of the area: 16 is its last 16 bytes.
+ *
+ *   w   progress marks   marks 0, 1, 2     copy    image   magic   a mark of
+ *       begin at         of sector 0       done    ok              value v is
+ *   1    416             35, 34, 33        32      24      16      v
+ *   2    800             38, 36, 34        32      24      16      v ff
+ *   4   1568             44, 40, 36        32      24      16      v ff ff ff
+ *   8   3104             56, 48, 40        32      24      16      v ff ff ff ff ff ff ff
+ *
+ *   progress marks  three for each sector, 01 02 03 as its three moves are done; those of sector i stand 3 * w * i further from the end than
+ *                   those of sector 0, and those of sector n - 1 stand for the exchange of the trailers
+ *   copy done       01 in slot 0: the exchange is over
+ *   image ok        01 in slot 0: the firmware is confirmed, it is not on trial; 01 in slot 1: exchange for good, not on trial
+ *   magic           77 c2 95 f3 60 d2 ef 7f 35 52 50 0f 2c b6 79 80: in slot 1, an exchange is wanted; in slot 0, one was begun; in scratch,
+ *                   the trailers are being exchanged, and scratch's image ok keeps slot 1's
+ *
+ * A mark is one unit, and unset while all of it is ff; the bytes between a mark and what follows it are neither read nor written.
+ *
+ * On trial is the firmware in slot 0 after a test exchange, until scale_confirm: magic there, copy done 01, image ok unset. The next start
+ * brings the old firmware back.
+ *
+ * The image
+ * ---------
+ * From the first byte of a slot on. Numbers are little endian; h, b and r are those that the header gives.
+ *
+ *   at      bytes   what
+ *   0       4       magic 96f3b83c: bytes 3c b8 f3 96
+ *   4       2       size of the trailing records, r
+ *   8       2       header size, h: 32 or more; the body begins there, and the firmware boots there
+ *   12      4       body size, b
+ *   h       b       body
+ *   h + b   r       trailing records, one after the other: type (1 byte), a byte that is not read, length (2), and that many bytes
+ *
+ * One record has type 1 and length 32: the SHA-256 of the first h + b bytes. Others may stand beside it. Nothing else of the header is read.
+ *
+ * Image and trailer are those of the published mcuboot design, with its first image format. Its newer format has magic 96f3b83d: cause 1.
  *
  * Memory
  * ------
@@ -28,13 +79,19 @@
  *   also where the length is 0 (nothing is read then).
  * - While a call runs nobody else writes to what is lent. Calls on different memory may run at the same time.
  *
+ * Wear
+ * ----
+ * Erases in an exchange: scratch's data sector m, scratch's trailer sector 2, every sector of both slots 1. A start that is cut or stopped
+ * costs at most one more, of the data sector that it was at or of each trailer sector. A clear-out erases each sector of slot 1 once.
+ *
  * Refusals
  * --------
  *   No.  When                                                      The areas then hold
  *   1    the geometry, or the length of an area, is wrong          what they held before
  *   2    damage: scratch's magic is good and its image ok is       what they held before
- *        neither unset nor 01; or slot 0 says that an exchange is
- *        under way and its progress marks are no legal run
+ *        neither unset nor 01 (under A); or slot 0 says that an
+ *        exchange is under way and its progress marks are no
+ *        legal run (under B); README.md has the steps to repair it
  *   3    slot 0 cannot be booted: its header magic is wrong, its   the counted operations are done
  *        header size is under 32, or its sizes sum to more than
  *        the slot's data bytes (causes 1 and 2)
@@ -59,6 +116,10 @@
  */
 #ifndef SCALE_H
 #define SCALE_H
+
+#if !defined __x86_64__ || defined __ILP32__ || defined _WIN32
+#error "scale.h: libscale.a is machine code for x86-64 with 64-bit pointers and System V calls, and for no other processor or system"
+#endif
 
 #include <stdbool.h>
 #include <stddef.h>
@@ -120,6 +181,10 @@ uint32_t scale_check_image(const uint8_t *image, size_t length);
  *
  * At most `allowance` operations are carried out, in their order, and the areas then hold exactly what these leave. Give UINT64_MAX
  * to go to the end. After SCALE_END_STOPPED call it again: it goes on from the flash alone.
+ *
+ * Give at least sector / unit + 2: an exchange that is due or under way is then done after at most 3 * m + 3 starts (m = sectors - 1). A start
+ * that is stopped in a move begins that move again, from its erase: with less, calling it again and again never ends, and wears out one
+ * sector. A whole exchange is 3 * m * (sector / unit + 2) + 8 + 2 * p + 32 / unit operations; p is 0 for a test, else 1.
  *
  * Refusals: 1, 2, 3, 8. With 1 and 2 nothing was written and count is 0.
  */

@@ -95,7 +95,7 @@ pub fn print_example() {
             }
         }
     }
-    println!("slot 0 runs: firmware {}", flash.areas[0][41] as char);
+    println!("slot 0 runs: firmware {}; slot 1 keeps: firmware {}", flash.areas[0][41] as char, flash.areas[1][41] as char);
     let confirmed = geometry.confirm(&mut flash);
     println!("confirm: refusal {}, {} operations", confirmed.refusal, confirmed.count);
     let answer = geometry.power_up(&mut flash, 0, true);
