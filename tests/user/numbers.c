@@ -109,9 +109,8 @@ static void least_allowance(unsigned kind)
     size_t starts = 1;
     due(&before, kind);
     f = before;
-    while (start(&f, s / w + 2).end == SCALE_END_STOPPED)
-        starts++;
-    HOLDS(starts <= 3 * m + 3);
+    for (; start(&f, s / w + 2).end == SCALE_END_STOPPED; starts++)
+        HOLDS(starts < 3 * m + 3);
     HOLDS(same_data(&f, SLOT0, &before, SLOT1) && same_data(&f, SLOT1, &before, SLOT0));
     most_starts = starts > most_starts ? starts : most_starts;
 
