@@ -85,6 +85,6 @@ withOutcome done found count o = record {
 unfoldable pub answerNumbers : Answer → Numbers
 answerNumbers a = withOutcome (doneNumber (a .done)) (a .found) (a .count) (a .outcome)
 
--- "They answer a number (0 for done) and a count."
+-- the refusal, 0 without one; "each answers its count"
 unfoldable pub markedNumbers : Marked → MarkNumbers
 markedNumbers m = record { refusal = endingRefusal (m .ending); count = m .count }

@@ -23,7 +23,7 @@ headerSize xs = field xs 8 2
 unfoldable pub bodySize : List ℕ → ℕ
 bodySize xs = field xs 12 4
 
--- The digest "covers header and body"; "the trailing records follow the body directly".
+-- The digest "covers header and body". "The trailing records follow the body directly".
 unfoldable pub coveredSize : List ℕ → ℕ
 coveredSize xs = headerSize xs + bodySize xs
 

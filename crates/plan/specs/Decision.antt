@@ -20,8 +20,9 @@ stepA g t2 =
     let ok = markOf g t2 (okAt g) in
     pick (isUnset ok) (FromLineThree false) (pick (hasValue 1 ok) (FromLineThree true) Damage)
 
--- B, for the c marks that are written: "They must be 01, 02, 03 repeated up to some mark, then all Unset. c = 0: none under way, go to C.
--- c from 3 to 3n: continue after c marks. Anything else is damage." (3n is three marks more than there are moves)
+-- B, for the c marks that are written: "They must be 01, 02, 03 repeated up to some mark, then all Unset. Let c be the number written.
+-- c = 0: none under way, go to C. c from 3 to 3n: continue after c marks. Anything else is damage." (3n is three marks more than there
+-- are moves)
 unfoldable pub continue : Build → List ℕ → ℕ → Course → Course
 continue g t0 c otherwise =
     pick (not (legal g t0 c 0 (3 * g .sectors))) Damage
@@ -81,7 +82,7 @@ okUnset g f = isUnset (markOf g (trailer g slot0 f) (okAt g))
 unfoldable pub inForce : (List ℕ → Bool) → Build → Flash → List Op
 inForce check g f = pick (valid g f) (listOf g (okUnset g f) (decide check g f)) []
 
--- "What was done names the list in force (resumed under A and B); on 1 and 2 it is none."
+-- "What was done names the list in force, even at allowance 0 (resumed under A and B); on 1 and 2 it is none."
 unfoldable pub doneOf : Course → Done
 doneOf Damage = Done.None
 doneOf (FromLineThree p) = Done.Resumed

@@ -94,7 +94,7 @@ pub in-force-steps : (check : List ℕ → Bool) (g : Build) → Sound g → (b 
     → steps g (inForce check g f) (start b f) ≡ carried g b (inForce check g f) f
 in-force-steps check g sound b f = fresh-steps g b (inForce check g f) f (never-unerased check g sound f)
 
--- "the count of operations, which is the smaller of the allowance and the length of the list"
+-- "the count of operations, which is the smaller of the allowance and the length of the list ordered above"
 pub in-force-count : (check : List ℕ → Bool) (g : Build) → Sound g → (b : ℕ) (f : Flash)
     → b - steps g (inForce check g f) (start b f) .run .left ≡ min b (length (inForce check g f))
 in-force-count check g sound b f =

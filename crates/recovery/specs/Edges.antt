@@ -63,7 +63,7 @@ edges =
     ∷ row (inSlot (magicAt small)) 1008
     -- "magic words f395c277, 7fefd260, 0f505235, 8079b62c", "The words are little endian here"
     ∷ row (littleEndian 0xf395c277 ++ littleEndian 0x7fefd260 ++ littleEndian 0x0f505235 ++ littleEndian 0x8079b62c) magicBytes
-    -- "Same geometry: test exchange 1,582 operations, permanent 1,584. w 8, s 4,096, n 3: test 3,096."
+    -- "Same geometry: test exchange 1,582 operations, permanent 1,584.* w 8, s 4,096, n 3: test 3,096.*"
     ∷ row (length (exchange small false)) 1582 ∷ row (length (exchange small true)) 1584
     ∷ row (length (exchange (base 8 4096 3) false)) 3096
     -- "Marks 01, ff in sector n − 1 with slot 0 Good and copy done Unset: refusal 2."

@@ -38,7 +38,7 @@ pub record Due (check : List ℕ → Bool) (g : Build) (f : Flash) (course : Cou
 unfoldable pub sectorOf : Build → Flash → Area → Sector → List ℕ
 sectorOf g f a i = part (area a f) (startOf (geometry g) i .0) (g .sector)
 
--- "the data sectors of the two slots have changed places whole"
+-- the data sectors of the two slots have changed places whole: "demand 3 wants the slots exchanged"
 pub record Swapped (g : Build) (f f' : Flash) : Type 0 where
   pub to-slot0 : (i : Sector) → i .0 < dataSectors g slot0 → sectorOf g f' slot0 i ≡ sectorOf g f slot1 i
   pub to-slot1 : (i : Sector) → i .0 < dataSectors g slot1 → sectorOf g f' slot1 i ≡ sectorOf g f slot0 i

@@ -1,4 +1,4 @@
--- Document 01, "Flash and geometry", as the C boundary is given it.
+-- Document 01, "The flash": the geometry as the C boundary is given it.
 use Prim.Native.Nat.{ℕ}
 use Rattle.flash.specs.declared.Geometry.{Geometry}
 
