@@ -1,0 +1,271 @@
+"""What a reader must believe: every definition that the entry points' contracts and the demands' theorems speak of.
+
+It begins with the contracts of the entry points (the public functions in `src/lib.rt` of the crates that docs/PROMISES.md calls so) and the
+statements of the theorems that docs/ARCHITECTURE.md names in its tables "From each demand to its theorem". A name in them leads, by the
+file's `use` lines, to its declaration, and so on: of a definition the whole counts, of a data type or record its constructors or fields, of
+a type that source declares its `struct` or `enum`; of a theorem in the tables the statement alone, with the parameters of the sections that
+it stands in. A local variable called as a definition in scope counts as that definition: the list may be too long by that, never too short.
+
+    closure.py              compares with the table "What a reader must believe, file by file": files, lines, names of the library
+    closure.py --list       prints the table as it should be, with the subjects that it has now; --write puts it in its place
+    closure.py --names      prints each definition, and through which other it was reached
+    closure.py --self-test  tries all this on a small made-up tree
+"""
+import pathlib
+import re
+import sys
+import tempfile
+
+sys.dont_write_bytecode = True
+from source import Source, Specs, Tree, Unread, names  # noqa: E402
+
+LINKS = "From each demand to its theorem"
+TABLE = "What a reader must believe, file by file"
+HEADING = "| File | Subject (document 01's section) | Lines |\n|---|---|---|"
+OF_LIBRARY = "Of the library:"
+# words in the tables that are no name of a declaration
+WORDS = {"requires", "unsafe", "&mut"}
+
+
+class Documents:
+    def __init__(self, root):
+        self.root = root
+        self.path = root / "docs/ARCHITECTURE.md"
+        self.text = self.path.read_text()
+
+    def section(self, level, title):
+        m = re.search(rf"^{level} {re.escape(title)}$(.*?)(?=^#{{2,{len(level)}}} |\Z)", self.text, re.M | re.S)
+        if not m:
+            raise Unread(f"docs/ARCHITECTURE.md has no section `{title}`")
+        return m[1]
+
+    def entry_crates(self, crates):
+        m = re.search(r"^The entry points have no `requires`: (.*?)\n\n", (self.root / "docs/PROMISES.md").read_text(), re.M | re.S)
+        if not m:
+            raise Unread("docs/PROMISES.md does not say which the entry points are")
+        return [word for word in re.findall(r"`(\w+)`", m[1].split(". ")[0]) if word in crates]
+
+    def links(self):
+        """The words of the tables of demands, row by row."""
+        for row in re.findall(r"^\|.*\|$", self.section("##", LINKS), re.M):
+            yield [word for word in re.findall(r"`([^`]+)`", row) if not re.search(r"\s", word)]
+
+    def table(self):
+        """For each file of the reader's table its subject and its lines."""
+        rows = re.findall(r"^\| `([^`]+)` \| (.*?) \| *(\d*) *\|$", self.section("###", TABLE), re.M)
+        return {file: (subject, int(lines or 0)) for file, subject, lines in rows}
+
+    def library(self):
+        m = re.search(rf"^{OF_LIBRARY}(.*?)\n\n", self.section("###", TABLE), re.M | re.S)
+        return set(re.findall(r"`([^`]+)`", m[1])) if m else set()
+
+    def dead_paths(self):
+        """The paths that are named anywhere in the document, and lead nowhere."""
+        for word in sorted(set(re.findall(r"`([a-z][\w./-]*)`", self.text, re.I))):
+            if "/" in word or word.endswith((".antt", ".rt")):
+                if not any(path for top in ("", "crates/", "crates/*/", "crates/*/specs/") for path in self.root.glob(top + word)):
+                    yield f"`{word}`: docs/ARCHITECTURE.md names it, and there is no such file"
+
+
+def roots_of(tree, docs):
+    """Contracts and theorems, and what is wrong with the documents that name them."""
+    roots, faults = [], list(docs.dead_paths())
+    for crate in docs.entry_crates(tree.crates):
+        entries = [one for one in tree.files[f"{crate}/src/lib.rt"].functions.values() if one.public]
+        faults += [f"{crate}::{one.name}: an entry point, and it has a `requires`" for one in entries if one.asks]
+        roots += entries
+    known = {name for file in tree.of(Source) for name in [*file.functions, *file.declared, *file.variants]} | WORDS | set(tree.crates)
+    for row in docs.links():
+        for word in row:
+            where = [file for file in tree.of(Specs) if word in file.declared]
+            # where several files declare it, those that the row names
+            named = [file for file in where if any(f"/{file.file}".endswith(f"/{path}") for path in row if path.endswith(".antt"))]
+            roots += [file.declared[word] for file in named or where]
+            if not where and "/" not in word and not word.endswith(".antt") and word.split("::")[-1] not in known:
+                faults.append(f"`{word}`: named in `{LINKS}`, and nothing declares it")
+    return roots, faults
+
+
+def closure(tree, roots):
+    """The definitions, each with the declaration that led to it, and the names of the library."""
+    reached = {one: None for one in roots if one.definition}
+    library, todo = set(), list(dict.fromkeys(roots))
+    while todo:
+        one = todo.pop()
+        for _, text in one.whole if one in reached else one.statement:
+            for name, qualifier in names(text):
+                found = tree.resolve(one.file, name, qualifier)
+                if isinstance(found, str):
+                    library.add(found)
+                elif found and found is not one and found not in reached:
+                    reached[found] = one
+                    todo.append(found)
+    return reached, library
+
+
+def lines_of(reached):
+    """For each file how many lines its definitions take."""
+    files = {}
+    for one in reached:
+        files.setdefault(one.file, set()).update(n for numbers, _ in one.whole for n in numbers)
+    return {file: len(lines) for file, lines in sorted(files.items())}
+
+
+def faults_of(docs, files, library):
+    """Where the reader's table differs from what is reached."""
+    table = docs.table()
+    for file in sorted(files.keys() - table.keys()):
+        yield f"{file}: a reader must believe {files[file]} lines of it, and the table leaves it out"
+    for file in sorted(table.keys() - files.keys()):
+        yield f"{file}: in the table, and nothing in it is reached"
+    for file in sorted(files.keys() & table.keys()):
+        subject, lines = table[file]
+        if lines != files[file]:
+            yield f"{file}: {files[file]} lines are reached, the table says {lines}"
+        if not subject.strip():
+            yield f"{file}: the table does not say what it is about"
+    for name in sorted(library ^ docs.library()):
+        yield f"{name}: of the library, {'and the table leaves it out' if name in library else 'in the table and not reached'}"
+
+
+def table_of(docs, files, library):
+    """The table as it should be: its rows in their present order, then the files that are new."""
+    table = docs.table()
+    order = [file for file in table if file in files] + [file for file in files if file not in table]
+    rows = [f"| `{file}` | {table.get(file, ('', 0))[0]} | {files[file]} |" for file in order]
+    line, wrapped = OF_LIBRARY, []
+    for name in sorted(library):
+        if len(line) + len(name) > 115:
+            wrapped, line = wrapped + [line], ""
+        line += f" `{name}`" if line else f"`{name}`"
+    return "\n".join([HEADING, *rows, "", *wrapped, line])
+
+
+def examine(root):
+    tree, docs = Tree(root), Documents(root)
+    roots, faults = roots_of(tree, docs)
+    reached, library = closure(tree, roots)
+    files = lines_of(reached)
+    return docs, roots, reached, files, library, faults + list(faults_of(docs, files, library))
+
+
+PROMISES = "The entry points have no `requires`: `go` (`code`). Every other function is an inner one.\n\n"
+ARCHITECTURE = f"""# It
+## Crates
+### {TABLE}
+{HEADING}
+| `base/specs/Bytes.antt` | bytes | 7 |
+| `base/src/lib.rt` | sizes | 3 |
+| `code/specs/Laws.antt` | what holds | 2 |
+
+{OF_LIBRARY} `_≡_` `ℕ`
+
+### Rules
+## {LINKS}
+| Sentence | Where |
+|---|---|
+| it goes | `it-goes` (`code/specs/Laws.antt`), promise of `code::go` |
+## Rest
+"""
+SPECS = """-- bytes
+use Prim.Native.Nat.{ℕ}
+use Rattle.base.specs.declared.Size.{Size}
+unfoldable pub twice : ℕ → ℕ
+twice n = n + {- not
+reached -} n
+abbrev pub sizeOf : Size → ℕ
+sizeOf s = s .bytes
+unfoldable pub unused : ℕ → ℕ
+unused n = n
+pub data Big (n : ℕ) : Type 0 where
+  big : Big n
+"""
+LAWS = """use mathlib.Core.Path.{_≡_, refl}
+use Rattle.base.specs.declared.Size.{Size}
+use Rattle.base.specs.Bytes as bytes
+use Rattle.base.specs.Bytes.{Big, unused}
+module _ (s : Size) (b : Big (s .bytes)) where
+  holds : bytes.twice (s .bytes) ≡ 2
+  pub it-goes : holds
+  unfolding holds
+  it-goes = record { unused = unused }
+"""
+CODE = """ghost use Prim.Native.Nat.{ℕ};
+ghost use Rattle.base.specs.Bytes.{sizeOf, unused};
+use base::Size;
+pub fn go(s: Size) -> usize
+    ensures { λ r. ⌜ r ≡ sizeOf s ⌝ }
+{
+    unused()
+}
+"""
+FILES = {
+    "docs/PROMISES.md": PROMISES, "docs/ARCHITECTURE.md": ARCHITECTURE, "crates/base/specs/Bytes.antt": SPECS,
+    "crates/base/src/lib.rt": "// a size\npub struct Size {\n    // how many\n    pub bytes: usize,\n}\n",
+    "crates/code/specs/Laws.antt": LAWS, "crates/code/src/lib.rt": CODE,
+}
+
+
+def self_test():
+    """The made-up tree, and each way in which it may come apart: what is changed, and what then is the fault."""
+    def tried(file, old, new):
+        with tempfile.TemporaryDirectory() as d:
+            for path, text in FILES.items():
+                assert path != file or old in text
+                target = pathlib.Path(d) / path
+                target.parent.mkdir(parents=True, exist_ok=True)
+                target.write_text(text.replace(old, new) if path == file else text)
+            return [fault.split(": ")[0].strip("`") for fault in examine(pathlib.Path(d))[-1]]
+
+    arch, laws, code = "docs/ARCHITECTURE.md", "crates/code/specs/Laws.antt", "crates/code/src/lib.rt"
+    specs = "crates/base/specs/Bytes.antt"
+    assert tried(arch, "# It", "# That") == []
+    # one definition more: in a statement, in a section's parameter, in a contract, in another definition
+    for file, old, new in ((laws, "≡ 2", "≡ unused 2"), (laws, "(s .bytes))", "(unused (s .bytes)))"), (code, "≡ sizeOf s", "≡ unused (sizeOf s)"),
+                           (specs, "= s .bytes", "= unused (s .bytes)"), (specs, "big : Big n", "big : Big (unused n)")):
+        assert tried(file, old, new) == ["base/specs/Bytes.antt"], (file, old)
+    # a definition less; the field of a record and a proof count for nothing
+    assert tried(laws, "bytes.twice (s .bytes)", "s .bytes") == ["base/specs/Bytes.antt"]
+    assert tried(laws, "{ unused = unused }", "{ unused = 1 }") == []
+    # another row, none, another count, no subject
+    assert tried(arch, "| `base/src/lib.rt` | sizes | 3 |\n", "") == ["base/src/lib.rt"]
+    assert tried(arch, "| sizes |", "|  |") == ["base/src/lib.rt"]
+    assert tried(arch, "| 3 |", "| 4 |") == ["base/src/lib.rt"]
+    assert tried(arch, "| `base/src/lib.rt`", "| `code/src/lib.rt` | code | 3 |\n| `base/src/lib.rt`") == ["code/src/lib.rt"]
+    assert tried(arch, " `ℕ`\n", " `ℕ` `refl`\n") == ["refl"]
+    assert tried(arch, " `_≡_`", "") == ["_≡_"]
+    # links that lead nowhere; an entry point that asks something
+    assert tried(arch, "(`code/specs/Laws.antt`)", "(`code/specs/Law.antt`)") == ["code/specs/Law.antt"]
+    assert "it-went" in tried(arch, "`it-goes`", "`it-went`")
+    assert tried(arch, "`code::go`", "`code::went`") == ["code::went"]
+    assert tried(code, "    ensures", "    requires { ⌜ s ≡ s ⌝ }\n    ensures") == ["code::go"]
+
+
+def main():
+    sys.stdout.reconfigure(encoding="utf-8")
+    self_test()
+    if "--self-test" in sys.argv:
+        return
+    docs, roots, reached, files, library, faults = examine(pathlib.Path(__file__).resolve().parents[2])
+    table = table_of(docs, files, library)
+    if "--list" in sys.argv:
+        print(table)
+    elif "--names" in sys.argv:
+        for one in sorted(reached, key=lambda one: (one.file, one.name)):
+            by = reached[one]
+            print(f"{one.file}: {one.name}" + (f", by {by.name} of {by.file}" if by else ""))
+    elif "--write" in sys.argv:
+        old = docs.section("###", TABLE)
+        new = re.sub(rf"^\| File \|.*?(?=\n\n(?!{OF_LIBRARY}))", lambda m: table, old, count=1, flags=re.M | re.S)
+        docs.path.write_text(docs.text.replace(old, new))
+    else:
+        for fault in faults:
+            print(fault, file=sys.stderr)
+        if faults:
+            print("tests/reader/closure.py --write mends the files and lines of the table", file=sys.stderr)
+            sys.exit(1)
+        print(f"{len(reached)} definitions of {len(files)} files, {sum(files.values())} lines, are what the contracts of "
+              f"{sum(hasattr(one, 'asks') for one in roots)} entry points and the theorems of the demands speak of: as docs/ARCHITECTURE.md says")
+
+
+main()
