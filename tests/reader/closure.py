@@ -268,4 +268,7 @@ def main():
               f"{sum(hasattr(one, 'asks') for one in roots)} entry points and the theorems of the demands speak of: as docs/ARCHITECTURE.md says")
 
 
-main()
+try:
+    main()
+except Unread as fault:
+    sys.exit(str(fault))
