@@ -10,7 +10,6 @@ use Rattle.flash.specs.declared.Sector.{Sector}
 use Rattle.flash.specs.Geometry.{sectorNo}
 use Rattle.flash.specs.Build.{Area, slot0, slot1, scratch, Build, Move, Flash, area, dataSectors, trailerSector, valid}
 use Rattle.flash.specs.Operations.{Op, erase, apply, run}
-use Rattle.flash.specs.Harm.{Cut}
 use Rattle.trailer.specs.Trailer.{copyDoneAt}
 use Rattle.plan.specs.declared.Course.{Course}
 use Rattle.plan.specs.declared.Course.the-variants.{Damage, FromLineThree, Resume, Test, Permanent, Revert, Clear, Nothing}
@@ -19,17 +18,13 @@ use Rattle.plan.specs.Decision.{decide, listOf, okUnset, inForce}
 use Rattle.recovery.specs.All.{All, none, one, all-append, all-map}
 use Rattle.recovery.specs.Windows.{Hidden, wipe, hidden-cut, hidden-erase, all-lengths}
 use Rattle.recovery.specs.Places.{Geo, unit-small, done-unit}
-use Rattle.recovery.specs.Statement.{Sound, sectorOf}
+use Rattle.recovery.specs.Statement.{Sound, sectorOf, sameSector}
+use Rattle.recovery.specs.Named.{During, after-some, failed, place, Unnamed, Only, trailerOf, trailers, targets, places, named}
 use Rattle.recovery.specs.Validity.{of-valid}
 use Rattle.recovery.specs.Hiding.{wipeTrailer, hidden-mark, hidden-ok, hidden-magic, hidden-begin, hidden-progress, hidden-move}
 use Rattle.recovery.specs.Settling.{three-marks}
-use Rattle.recovery.specs.Sectors.{sameSector, sector-unwiped}
+use Rattle.recovery.specs.Sectors.{sector-unwiped}
 use Rattle.recovery.specs.Unerased.{resume-means}
-
--- f' is met while ops are carried out from f: after some of them, or after a failure among them
-pub data During (g : Build) (ops : List Op) (f f' : Flash) : Type 0 where
-  after-some : (b : ℕ) → f' ≡ run g b ops f → During g ops f f'
-  failed : Cut g ops f f' → During g ops f f'
 
 module _ {g : Build} {A : Type 0} {W : Flash → A} where
   hidden-some : {ops : List Op} → All (Hidden g W) ops → (b : ℕ) (f : Flash) → W (run g b ops f) ≡ W f
@@ -41,51 +36,6 @@ module _ {g : Build} {A : Type 0} {W : Flash → A} where
   pub unchanged : {ops : List Op} → All (Hidden g W) ops → {f f' : Flash} → During g ops f f' → W f' ≡ W f
   unchanged hs {f} (after-some b e) = ap W e ∙ hidden-some hs b f
   unchanged hs (failed c) = hidden-cut hs c
-
--- ---- the sectors that the lists name
-
-pub record Place : Type 0 where
-  pub in-area : Area
-  pub at-sector : Sector
-
-abbrev pub place : Area → Sector → Place
-place a i = record { in-area = a; at-sector = i }
-
--- sector k of area b is none of the named places
-abbrev pub Unnamed : List Place → Area → Sector → Type 0
-Unnamed named b k = All (λ (p : Place). sameSector (p .in-area) (p .at-sector) b k ≡ false) named
-
--- of the sectors, f' differs from f in the named ones at most
-abbrev pub Only : Build → List Place → Flash → Flash → Type 0
-Only g named f f' = (b : Area) (k : Sector) → Unnamed named b k → sectorOf g f' b k ≡ sectorOf g f b k
-
-abbrev pub trailerOf : Build → Area → Place
-trailerOf g a = place a (trailerSector g a)
-
-abbrev pub trailers : Build → List Place
-trailers g = trailerOf g slot0 ∷ trailerOf g slot1 ∷ trailerOf g scratch ∷ []
-
--- the targets of moves
-unfoldable pub targets : List Move → List Place
-targets [] = []
-targets (m ∷ ms) = place (m .to) (m .to-sector) ∷ targets ms
-
--- k sectors from number i on
-unfoldable pub places : Area → ℕ → ℕ → List Place
-places a i zero = []
-places a i (suc k) = place a (sectorNo i) ∷ places a (suc i) k
-
--- the sectors that document 01 names: the three trailer sectors and the moves' targets; slot 0's trailer sector and the targets of
--- the moves that are left; slot 0's trailer sector (in it, image ok alone: `clear-out-only`) and slot 1
-unfoldable pub named : Build → Course → List Place
-named g Damage = []
-named g (FromLineThree p) = trailers g ++ targets (g .moves)
-named g (Resume c) = trailerOf g slot0 ∷ targets (drop (c - 3) (g .moves))
-named g Test = trailers g ++ targets (g .moves)
-named g Permanent = trailers g ++ targets (g .moves)
-named g Revert = trailers g ++ targets (g .moves)
-named g Clear = trailerOf g slot0 ∷ trailerOf g slot1 ∷ places slot1 0 (dataSectors g slot1)
-named g Nothing = []
 
 module _ {g : Build} (geo : Geo g) (b : Area) (k : Sector) where
   -- an operation in one sector does not show in another

@@ -8,8 +8,8 @@ use lib.ListN.{take, drop}
 use Rattle.spans.specs.Bytes.{blank}
 use Rattle.spans.specs.Laws.{take-put-before, drop-put-after}
 use Rattle.flash.specs.declared.Sector.{Sector}
-use Rattle.flash.specs.Geometry.{sectorNo, startOf, after}
-use Rattle.flash.specs.Build.{Area, slot0, slot1, scratch, Build, Flash, area, geometry, sameArea, dataSectors, trailerSector}
+use Rattle.flash.specs.Geometry.{sectorNo}
+use Rattle.flash.specs.Build.{Area, slot0, slot1, scratch, Build, Flash, area, sameArea, dataSectors, trailerSector}
 use Rattle.flash.specs.Operations.{erase, store, apply}
 use Rattle.flash.specs.Harm.{Torn, as-before, half-erased}
 use Rattle.flash.specs.AreaLaws.{unseen}
@@ -18,18 +18,8 @@ use Rattle.plan.specs.Lists.{trailerUnit, mark, okOps, erases, clearOut}
 use Rattle.recovery.specs.All.{All, none, one, all-append}
 use Rattle.recovery.specs.Windows.{Hidden}
 use Rattle.recovery.specs.Places.{Geo, unit-back, ok-unit, length-mark, mark-whole}
-use Rattle.recovery.specs.Changes.{During, unchanged}
-
--- where slot 0's image ok stands
-abbrev pub okPlace : Build → ℕ
-okPlace g = after (startOf (geometry g) (trailerSector g slot0)) (okAt g) .0
-
--- "erase slot 1's data sectors .., write slot 0 image ok 01 if it is Unset, erase slot 1's trailer sector": scratch is as it was,
--- and slot 0 is, before the unit of its image ok and after it
-pub record Cleared (g : Build) (f f' : Flash) : Type 0 where
-  pub in-scratch : f' .in2 ≡ f .in2
-  pub before-ok : take (okPlace g) (f' .in0) ≡ take (okPlace g) (f .in0)
-  pub after-ok : drop (okPlace g + g .unit) (f' .in0) ≡ drop (okPlace g + g .unit) (f .in0)
+use Rattle.recovery.specs.Named.{During, okPlace, Cleared}
+use Rattle.recovery.specs.Changes.{unchanged}
 
 module _ {g : Build} (geo : Geo g) where
   -- an erase in slot 1 shows in no other area

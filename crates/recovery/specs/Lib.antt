@@ -8,6 +8,7 @@ pub mod HarmWitness
 pub mod Bridge
 pub mod Unerased
 pub mod Damage
+pub mod Named
 pub mod Changes
 pub mod ClearOut
 pub mod Count

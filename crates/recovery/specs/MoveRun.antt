@@ -21,11 +21,11 @@ use Rattle.recovery.specs.Cuts.{runAll-append, run-all}
 use Rattle.recovery.specs.Windows.{hidden-run, hidden-erase, wipe}
 use Rattle.recovery.specs.Places.{Geo, Sized, per, per-back, unit-small, done-unit}
 use Rattle.plan.specs.Lengths.{length-copies}
-use Rattle.recovery.specs.Statement.{Proper, sectorOf}
+use Rattle.recovery.specs.Statement.{Proper, sectorOf, sameSector}
 use Rattle.recovery.specs.Hiding.{hidden-mark, hidden-begin, hidden-progress}
 use Rattle.recovery.specs.Begin.{sized-run}
 use Rattle.recovery.specs.Settling.{settling, settle-split, hidden-settling}
-use Rattle.recovery.specs.Sectors.{sameSector, moved1, moved, moved-same, read-apart, inside, sector-store, sector-same, sector-both}
+use Rattle.recovery.specs.Sectors.{moved1, moved, moved-same, read-apart, inside, sector-store, sector-same, sector-both}
 
 module _ {g : Build} (geo : Geo g) (a b : Area) (i j : Sector) (e : sameSector b j a i ≡ false) where
   -- copies from byte o of one sector to byte o of another

@@ -20,7 +20,7 @@ use Rattle.trailer.specs.Trailer.{trailer}
 use Rattle.recovery.specs.All.{All, one-less}
 use Rattle.recovery.specs.Windows.{wipe}
 use Rattle.recovery.specs.Places.{Geo, Sized}
-use Rattle.recovery.specs.Statement.{Proper, sectorOf}
+use Rattle.recovery.specs.Statement.{Proper, sectorOf, sameSector}
 use Rattle.recovery.specs.Hiding.{wipeTrailer}
 use Rattle.recovery.specs.Settling.{wipeBoth}
 
@@ -29,9 +29,6 @@ use Rattle.recovery.specs.Settling.{wipeBoth}
 -- what stands where: the bytes of each sector of each area
 abbrev pub Contents : Type 0
 Contents = Area → Sector → List ℕ
-
-abbrev pub sameSector : Area → Sector → Area → Sector → Bool
-sameSector a i b k = sameArea a b && eqb (i .0) (k .0)
 
 unfoldable pub moved1 : Move → Contents → Contents
 moved1 m σ b k = pick (sameSector (m .to) (m .to-sector) b k) (σ (m .from) (m .from-sector)) (σ b k)

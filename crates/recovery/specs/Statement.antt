@@ -38,6 +38,10 @@ pub record Due (check : List ℕ → Bool) (g : Build) (f : Flash) (course : Cou
 unfoldable pub sectorOf : Build → Flash → Area → Sector → List ℕ
 sectorOf g f a i = part (area a f) (startOf (geometry g) i .0) (g .sector)
 
+-- two sectors are one
+abbrev pub sameSector : Area → Sector → Area → Sector → Bool
+sameSector a i b k = sameArea a b && eqb (i .0) (k .0)
+
 -- the data sectors of the two slots have changed places whole: "demand 3 wants the slots exchanged"
 pub record Swapped (g : Build) (f f' : Flash) : Type 0 where
   pub to-slot0 : (i : Sector) → i .0 < dataSectors g slot0 → sectorOf g f' slot0 i ≡ sectorOf g f slot1 i
