@@ -18,16 +18,9 @@ use Rattle.flash.specs.Operations.{Op, erase, write, copy, unitOf, apply, run, 
 use Rattle.flash.specs.AreaLaws.{with-own}
 use Rattle.flash.specs.OperationLaws.{halt, steps-stopped}
 use Rattle.plan.specs.Decision.{inForce}
-use Rattle.recovery.specs.Statement.{Sound}
+use Rattle.recovery.specs.Statement.{Sound, carried}
 use Rattle.recovery.specs.Fresh.{Fresh, end, erasing, writing, copying}
 use Rattle.recovery.specs.Unerased.{never-unerased}
-
--- the state after the first b operations of a list, with nothing in their way
-abbrev pub carried : Build → ℕ → List Op → Flash → State
-carried g b ops f = record {
-  flash = run g b ops f;
-  run = record { left = b - length ops; end = pick (ltb b (length ops)) Stopped Going };
-}
 
 -- ---- one operation
 

@@ -2,36 +2,25 @@
 -- before the exchange's last write is done, each failure doing the harm that document 01 allows (`Failures`). Then one power-up
 -- with an allowance for a whole exchange leaves all three areas, byte for byte, as an exchange that was never cut, and the data
 -- sectors of the two slots have changed places whole.
-use mathlib.Core.Path.{_≡_, sym, _∙_}
+use mathlib.Core.Path.{sym, _∙_}
 use mathlib.Core.List.{List}
 use mathlib.Core.Bool.{Bool}
 use Prim.Native.Nat.{ℕ, _+_, _*_, _-_, _/_, _≤_, _<_}
 use native.Mathlib.Omega.{arith}
 use lib.ListN.{length}
-use Rattle.flash.specs.declared.End.the-variants.{Going}
 use Rattle.flash.specs.Build.{Build, Flash}
-use Rattle.flash.specs.Operations.{run, runAll, steps, start}
+use Rattle.flash.specs.Operations.{steps, start}
 use Rattle.flash.specs.Base.{base}
 use Rattle.plan.specs.declared.Course.{Course}
 use Rattle.plan.specs.Lists.{exchange}
 use Rattle.plan.specs.Decision.{inForce}
 use Rattle.recovery.specs.Cuts.{stopped-cut}
-use Rattle.recovery.specs.Statement.{Failures, never, again, Due, Sound, Swapped}
+use Rattle.recovery.specs.Statement.{Failures, never, again, Due, Swapped, AsNeverCut, Sound}
 use Rattle.recovery.specs.Bridge.{in-force-steps}
 use Rattle.plan.specs.Lengths.{one-if}
 use Rattle.recovery.specs.Validity.{Valid, of-valid}
 use Rattle.recovery.specs.NeverLost.{run-ends, steps-ends, steps-end}
 use Rattle.recovery.specs.BaseMoves.{base-sound, base-swaps, length-base}
-
--- f is where the failures began, f' where they led, b the allowance of the power-up that follows
-pub record AsNeverCut (check : List ℕ → Bool) (g : Build) (p : Bool) (b : ℕ) (f f' : Flash) : Type 0 where
-  -- all three areas, as after the exchange's whole list, and as after a power-up that was not cut
-  pub whole : run g b (inForce check g f') f' ≡ runAll g (exchange g p) f
-  pub areas : run g b (inForce check g f') f' ≡ run g b (inForce check g f) f
-  -- and so where the writes are refused that do not meet erased units, with no other operation due
-  pub carried : steps g (inForce check g f') (start b f') .flash ≡ steps g (inForce check g f) (start b f) .flash
-  pub same : steps g (inForce check g f') (start b f') .flash ≡ run g b (inForce check g f') f'
-  pub ended : steps g (inForce check g f') (start b f') .run .end ≡ Going
 
 -- for every sound build
 pub never-lost : (check : List ℕ → Bool) {g : Build} → Sound g → {f f' : Flash} {course : Course} {p : Bool}

@@ -2,18 +2,21 @@
 use mathlib.Core.Path.{_≡_}
 use mathlib.Core.List.{List}
 use mathlib.Core.Bool.{Bool, true, false, _&&_}
-use Prim.Native.Nat.{ℕ, _≤_, _<_, _+_, _*_}
+use Prim.Native.Nat.{ℕ, _≤_, _<_, _+_, _*_, _-_}
 use lib.ListN.{length}
-use lib.Dec.{eqb}
+use lib.Dec.{eqb, ltb}
 use Rattle.spans.specs.Bytes.{part}
+use Rattle.spans.specs.Choice.{pick}
 use Rattle.flash.specs.declared.Sector.{Sector}
+use Rattle.flash.specs.declared.End.the-variants.{Going, Stopped}
 use Rattle.flash.specs.Geometry.{startOf}
 use Rattle.flash.specs.Build.{Area, slot0, slot1, Build, geometry, Move, Flash, area, sameArea, dataSectors, valid}
-use Rattle.flash.specs.Operations.{Op}
+use Rattle.flash.specs.Operations.{Op, run, runAll, State, start, steps}
 use Rattle.flash.specs.Harm.{Cut}
 use Rattle.plan.specs.declared.Course.{Course}
 use Rattle.plan.specs.declared.Course.the-variants.{Test, Permanent, Revert}
-use Rattle.plan.specs.Decision.{decide}
+use Rattle.plan.specs.Lists.{exchange}
+use Rattle.plan.specs.Decision.{decide, inForce}
 use Rattle.recovery.specs.All.{All}
 
 -- From f, any number of power-ups, each cut before the last operation of its list was done, with nothing else writing the flash
@@ -46,6 +49,25 @@ sameSector a i b k = sameArea a b && eqb (i .0) (k .0)
 pub record Swapped (g : Build) (f f' : Flash) : Type 0 where
   pub to-slot0 : (i : Sector) → i .0 < dataSectors g slot0 → sectorOf g f' slot0 i ≡ sectorOf g f slot1 i
   pub to-slot1 : (i : Sector) → i .0 < dataSectors g slot1 → sectorOf g f' slot1 i ≡ sectorOf g f slot0 i
+
+-- ---- what a power-up leaves
+
+-- the state after the first b operations of a list, with nothing in their way
+abbrev pub carried : Build → ℕ → List Op → Flash → State
+carried g b ops f = record {
+  flash = run g b ops f;
+  run = record { left = b - length ops; end = pick (ltb b (length ops)) Stopped Going };
+}
+
+-- f is where the failures began, f' where they led, b the allowance of the power-up that follows
+pub record AsNeverCut (check : List ℕ → Bool) (g : Build) (p : Bool) (b : ℕ) (f f' : Flash) : Type 0 where
+  -- all three areas, as after the exchange's whole list, and as after a power-up that was not cut
+  pub whole : run g b (inForce check g f') f' ≡ runAll g (exchange g p) f
+  pub areas : run g b (inForce check g f') f' ≡ run g b (inForce check g f) f
+  -- and so where the writes are refused that do not meet erased units, with no other operation due
+  pub carried : steps g (inForce check g f') (start b f') .flash ≡ steps g (inForce check g f) (start b f) .flash
+  pub same : steps g (inForce check g f') (start b f') .flash ≡ run g b (inForce check g f') f'
+  pub ended : steps g (inForce check g f') (start b f') .run .end ≡ Going
 
 -- ---- builds
 
