@@ -170,6 +170,8 @@ static void mark(scale *s, bool confirm, bool permanent)
         return;
     }
     DEMAND(r.count == (confirm ? 1 : 16 / s->unit + permanent));
+    unsigned other = confirm ? 1 : 0;
+    DEMAND(memcmp(&before.bytes[other], &s->now.bytes[other], sizeof before.bytes[other]) == 0);
     DEMAND(memcmp(&before.bytes[2], &s->now.bytes[2], sizeof before.bytes[2]) == 0);
     flash after = s->now;
     DEMAND(call_mark(s, confirm, permanent).refusal == (confirm ? 7 : 5));
