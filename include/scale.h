@@ -69,7 +69,8 @@
  *
  * One record has type 1 and length 32: the SHA-256 of the first h + b bytes. Others may stand beside it. Nothing else of the header is read.
  *
- * Image and trailer are those of the published mcuboot design, with its first image format. Its newer format has magic 96f3b83d: cause 1.
+ * Image and trailer are those of the published mcuboot design (source document 003), with its first image format. Its newer format has magic
+ * 96f3b83d: cause 1.
  *
  * Memory
  * ------
