@@ -12,10 +12,10 @@
  * the erase of that sector, which takes longest. A capacitor does it. Data sectors need no such care: half an erase or half a write of them is
  * done again at the next start.
  *
- * Without that, random bytes where a trailer operation was cut do this: a progress mark ends in refusal 2 (the firmware is then in parts);
- * copy done leaves the new firmware running and not on trial, so that nothing brings the old one back; the other trailer operations are taken
- * up again, unless the erase of scratch's trailer left its magic and spoilt its image ok, which is refusal 2. docs/ARCHITECTURE.md has all that
- * a board owes.
+ * Without that, random bytes where a trailer operation was cut do this. In a progress mark (how far the exchange has come): refusal 2, and the
+ * firmware is in parts. In copy done (the exchange is over): the new firmware runs and is not on trial, that is, nothing takes it back if it is
+ * not confirmed. The other trailer operations are taken up again, unless the erase of scratch's trailer left its magic (a trailer is in use) and
+ * spoilt its image ok (a firmware stays), which is refusal 2. docs/ARCHITECTURE.md has all that a board owes.
  *
  * The flash
  * ---------
@@ -48,7 +48,7 @@
  *   copy done       01 in slot 0: the exchange is over
  *   image ok        01 in slot 0: the firmware is confirmed, it is not on trial; 01 in slot 1: exchange for good, not on trial
  *   magic           77 c2 95 f3 60 d2 ef 7f 35 52 50 0f 2c b6 79 80: in slot 1, an exchange is wanted; in slot 0, one was begun; in scratch,
- *                   the trailers are being exchanged, and scratch's image ok keeps slot 1's
+ *                   the trailers are being exchanged, and scratch's image ok is 01 if slot 0's is to be
  *
  * A mark is one unit, and unset while all of it is ff; the bytes between a mark and what follows it are neither read nor written.
  *
