@@ -95,6 +95,8 @@ static void say_start(scale_answer a) {
         printf(" refused %" PRIu64, a.refusal);
     if (a.cause)
         printf(" cause %" PRIu64, a.cause);
+    if ((a.end != SCALE_END_BOOT && a.offset) || (a.end != SCALE_END_REFUSED && a.refusal))
+        printf(" WRONG, offset %" PRIu64 ", refusal %" PRIu64, a.offset, a.refusal);
 }
 
 static void ask(function f, uint64_t allowance) {
@@ -103,7 +105,7 @@ static void ask(function f, uint64_t allowance) {
     if (f == START || f == FULL)
         say_start(a);
     else if (a.refusal)
-        printf("refused %" PRIu64, a.refusal);
+        printf(a.count ? "refused %" PRIu64 " after %" PRIu64 : "refused %" PRIu64, a.refusal, a.count);
     else
         printf("written %" PRIu64, a.count);
     if (memcmp(shelf(0), flash, size()) == 0)

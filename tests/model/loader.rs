@@ -103,8 +103,15 @@ impl Geometry {
                 Mark::Unset => continue,
                 Mark::Bad => Branch::BBadMark,
                 Mark::Value(value) if !(1..=3).contains(value) => Branch::BOtherValue,
-                Mark::Value(_) if place > written => {
-                    if written == 0 { Branch::BUnsetFront } else { Branch::BGap }
+                Mark::Value(value) if place > written => {
+                    let fits = *value as usize == place % 3 + 1;
+                    if written == 0 {
+                        Branch::BUnsetFront
+                    } else if written >= 3 && fits {
+                        Branch::BGapFits
+                    } else {
+                        Branch::BGap
+                    }
                 }
                 Mark::Value(value) if *value as usize != place % 3 + 1 => Branch::BOutOfTurn,
                 Mark::Value(_) => continue,
@@ -131,6 +138,9 @@ impl Geometry {
         let (ok0, ok1) = (self.image_ok(flash, Area::Slot0), self.image_ok(flash, Area::Slot1));
         let copy_done0 = self.copy_done(flash, Area::Slot0);
         let ready_for_revert = magic0 == Magic::Good && ok0 == Mark::Unset && copy_done0 == Mark::Value(1);
+        if magic0 == Magic::Bad && ok0 == Mark::Unset && copy_done0 == Mark::Value(1) && magic1 == Magic::Unset {
+            reach(Branch::FourOnlyMagic0Bad);
+        }
         match (magic1, ok1) {
             (Magic::Good, Mark::Unset) => {
                 reach(if ready_for_revert { Branch::StateIWhereIIIIsReady } else { Branch::StateI });
@@ -221,7 +231,19 @@ impl Geometry {
         };
         let answer = Answer { done, found, count, end };
         reach_end(&answer, list.len() as u64, allowance, check_slot0);
+        self.reach_within(&answer);
         answer
+    }
+
+    /// Stops where an order of two operations shows.
+    fn reach_within(&self, answer: &Answer) {
+        let Answer { done, count, end: End::Stopped, .. } = *answer else { return };
+        let lines_1_to_3 = 2 + u64::from(done != Done::Test) + 16 / self.unit as u64;
+        match done {
+            Done::Test | Done::Permanent | Done::Revert if count == lines_1_to_3 => reach(Branch::StoppedBetweenLines3And4),
+            Done::Cleared if 0 < count && count < self.data_sectors() as u64 => reach(Branch::StoppedBetweenClearedSectors),
+            _ => {}
+        }
     }
 
     /// D.

@@ -49,6 +49,10 @@ impl Geometry {
             UnderWay::Marks(_) => return refused(Branch::ConfirmUnderB, 6),
             UnderWay::Nothing => {}
         }
+        let rest_met = self.copy_done(flash, Area::Slot0) == Mark::Value(1) && self.image_ok(flash, Area::Slot0) == Mark::Unset;
+        if self.magic(flash, Area::Slot0) == Magic::Bad && rest_met {
+            reach(Branch::ConfirmOnlyMagicBad);
+        }
         if self.magic(flash, Area::Slot0) != Magic::Good {
             return refused(Branch::ConfirmMagic, 7);
         }

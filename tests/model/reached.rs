@@ -21,10 +21,10 @@ branches! {
     ScratchGood, ScratchUnset, ScratchBad, ATest, APermanent, AOtherValue, ABad,
     // B
     BSlot0Unset, BSlot0Bad, BCopyDone01, BCopyDoneOther, BCopyDoneBad, BNone, BJunkUnread,
-    BOne, BTwo, BThree, BInsideTriple, BWholeTriple, BAll, BGap, BUnsetFront, BOutOfTurn, BOtherValue, BBadMark,
+    BOne, BTwo, BThree, BInsideTriple, BWholeTriple, BAll, BGap, BGapFits, BUnsetFront, BOutOfTurn, BOtherValue, BBadMark,
     // C
     StateI, StateII, StateIII, StateIWhereIIIIsReady, FourOkOther, FourOkBad, FourHalfMagic, FourConfirmed, FourSlot0NotGood,
-    FourCopyDoneOther,
+    FourCopyDoneOther, FourOnlyMagic0Bad,
     // the image check
     Accepted, TooFewBytes, HeaderMagic, HeaderSizeUnder, HeaderSizeLeast, HeaderExtended, SumAbove, SumAboveByOne, SumExact, SumOver32Bits,
     LeftOver1, LeftOver2, LeftOver3, RecordTooLong, EmptyArea, NoDigest, TwoDigests, DigestLength, OtherRecords, EmptyRecord, PadByteSet,
@@ -34,12 +34,12 @@ branches! {
     // the ends
     StoppedAtNothing, StoppedWithin, StoppedOneBefore, ExactAllowance, AllowanceToSpare,
     BootNone, BootTest, BootPermanent, BootRevert, BootResumed, BootCleared,
-    StoppedTest, StoppedPermanent, StoppedRevert, StoppedResumed, StoppedCleared,
+    StoppedTest, StoppedPermanent, StoppedRevert, StoppedResumed, StoppedCleared, StoppedBetweenLines3And4, StoppedBetweenClearedSectors,
     RefusedThreeNone, RefusedThreeResumed, RefusedThreeCleared, RefusedThreeCause1, RefusedThreeCause2,
     RefusedFourCause3, RefusedFourCause4, RefusedFourCause5, RefusedFourNone, RefusedFourResumed, RefusedFourCleared, CheckedBoot,
     // marking and confirming
     MarkGeometry, MarkDamage, MarkUnderA, MarkUnderB, MarkOkSet, MarkMagicSet, MarkedTest, MarkedPermanent,
-    ConfirmGeometry, ConfirmDamage, ConfirmUnderA, ConfirmUnderB, ConfirmMagic, ConfirmCopyDone, ConfirmOk, Confirmed,
+    ConfirmGeometry, ConfirmDamage, ConfirmUnderA, ConfirmUnderB, ConfirmMagic, ConfirmOnlyMagicBad, ConfirmCopyDone, ConfirmOk, Confirmed,
     // cannot come
     UnitNotErased, RefusedAfterExchange,
 }

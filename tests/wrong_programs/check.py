@@ -101,6 +101,8 @@ def main():
         tried = {name for row in rows for name in re.findall(r"`(\w+)`", row) if name in names}
         if len(tried) < 2:
             faults.append(f"{crate}::{function}: docs/PROMISES.md names {len(tried)} wrong programs of two")
+    if not names or not functions:
+        faults.append("no wrong program, or no public function: nothing was looked at")
     for fault in faults:
         print(fault, file=sys.stderr)
     if faults:
