@@ -112,6 +112,22 @@ static void ask(function f, uint64_t allowance) {
         printf(", as before");
 }
 
+/* A start from a kept flash, its answer, and whether it leaves the flash as it stands here, or where not first. */
+static void leaves(size_t k, uint64_t allowance) {
+    static uint8_t wanted[FLASH];
+    size_t place = 0;
+    memcpy(wanted, flash, size());
+    memcpy(flash, shelf(k), size());
+    say_start(call(START, allowance));
+    while (place < size() && flash[place] == wanted[place])
+        place++;
+    if (place == size())
+        printf(", as stated");
+    else
+        printf(", WRONG at byte %zu of the flash, %02x and not %02x", place, flash[place], wanted[place]);
+    memcpy(flash, wanted, size());
+}
+
 /* Bytes of two digits each, with a space between. */
 static void put(size_t area, size_t offset) {
     size_t count = (text_length + 1) / 3;
@@ -133,22 +149,6 @@ static uint64_t cuts(size_t due, size_t ended, size_t below) {
         count += memcmp(flash, shelf(ended), size()) == 0;
     }
     return count;
-}
-
-/* A start from a kept flash, its answer, and whether it leaves the flash as it stands here, or where not first. */
-static void leaves(size_t k, uint64_t allowance) {
-    static uint8_t wanted[FLASH];
-    size_t place = 0;
-    memcpy(wanted, flash, size());
-    memcpy(flash, shelf(k), size());
-    say_start(call(START, allowance));
-    while (place < size() && flash[place] == wanted[place])
-        place++;
-    if (place == size())
-        printf(", as stated");
-    else
-        printf(", WRONG at byte %zu of the flash, %02x and not %02x", place, flash[place], wanted[place]);
-    memcpy(flash, wanted, size());
 }
 
 /* Commands that print nothing. */
