@@ -1,9 +1,9 @@
 -- The test exchange of `Witness` cut with harm: each data sector and its last unit can hold any bytes, in each of the three areas; and
 -- cut again and again.
-use mathlib.Core.Path.{_≡_, refl, _∙_}
+use mathlib.Core.Path.{_≡_, refl}
 use mathlib.Core.List.{List, [], _∷_}
-use mathlib.Core.Bool.{true, false}
-use Prim.Native.Nat.{ℕ, suc, _+_, _≤_}
+use mathlib.Core.Bool.{false}
+use Prim.Native.Nat.{ℕ, suc, _+_}
 use native.Mathlib.Omega.{arith}
 use lib.ListN.{length, drop, replicate}
 use Rattle.spans.specs.Bytes.{part, put, blank, same}
@@ -11,7 +11,7 @@ use Rattle.spans.specs.Choice.{every}
 use Rattle.flash.specs.Geometry.{sectorNo, unitNo}
 use Rattle.flash.specs.Build.{Area, slot0, slot1, scratch, Flash, area, asked, fits, valid}
 use Rattle.flash.specs.Base.{threeMoves, allMoves, base}
-use Rattle.flash.specs.Operations.{Op, erase, copy, store, run, apply}
+use Rattle.flash.specs.Operations.{erase, copy, store, run, apply}
 use Rattle.flash.specs.Harm.{half-erased, half-copied}
 use Rattle.trailer.specs.Trailer.{magicBytes, trailer, magicOf, markOf, markBytes, isGood, noMagic, isUnset, hasValue, written, legal}
 use Rattle.plan.specs.Lists.{writes, magicOps, okOps, linesOneTwo, linesThreeToSix, copies, moveOps, dataOps, exchange}

@@ -10,7 +10,9 @@ pub mod Unerased
 pub mod Damage
 pub mod Named
 pub mod Changes
+pub mod NamedWorked
 pub mod ClearOut
+pub mod ChangesTell
 pub mod Count
 pub mod Edges
 pub mod LeastAllowance
