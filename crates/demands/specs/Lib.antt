@@ -5,6 +5,7 @@ pub mod Demand1
 pub mod Demand2
 pub mod Demand3
 pub mod Boots
+pub mod Instances
 pub mod Starred
 pub mod LeastAllowance
 pub mod MarkLists
