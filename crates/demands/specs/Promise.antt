@@ -1,5 +1,5 @@
 -- What `loader::full_start` and `loader::power_up` promise, and that it determines the answer and all three areas.
-use mathlib.Core.Path.{_≡_, sym, ap, _∙_}
+use mathlib.Core.Path.{_≡_, refl, sym, ap, _∙_}
 use mathlib.Core.Bool.{Bool}
 use Prim.Native.Nat.{ℕ}
 use Rattle.flash.specs.declared.Geometry.{Geometry}
@@ -14,6 +14,10 @@ use Rattle.marking.specs.MarkResults.{markResult}
 -- the function was called with the areas f, and left the answer a and the areas f' (its `ensures`, word for word)
 pub record Start (checked : Bool) (g : Geometry) (b : ℕ) (f : Flash) (a : Answer) (f' : Flash) : Type 0 where
   pub promised : result a f' ≡ fullStart checked g b f
+
+-- some answer meets it, whatever the function was called with
+pub met : (checked : Bool) (g : Geometry) (b : ℕ) (f : Flash) → Start checked g b f (fullStart checked g b f .answer) (fullStart checked g b f .flash)
+met checked g b f = record { promised = refl }
 
 -- any two answers that the promise allows are equal, and so are the areas
 pub one-answer : {checked : Bool} {g : Geometry} {b : ℕ} {f f₁ f₂ : Flash} {a₁ a₂ : Answer}

@@ -1,0 +1,100 @@
+-- Each theorem at the top applied, with the image check itself: its hypotheses can be met, and what it says then is document 01's.
+use mathlib.Core.Path.{_≡_, refl, ap, _∙_}
+use mathlib.Core.List.{List, [], _∷_, _++_}
+use mathlib.Core.Bool.{Bool, true, false}
+use Prim.Native.Nat.{ℕ}
+use native.Mathlib.Omega.{arith}
+use lib.ListN.{length, take, drop, replicate}
+use lib.Seq.{take-at}
+use Rattle.spans.specs.Bytes.{part, put, blank, same}
+use Rattle.spans.specs.Choice.{every}
+use Rattle.fields.specs.Fields.{little, field}
+use Rattle.flash.specs.declared.Geometry.{Geometry}
+use Rattle.flash.specs.Build.{Flash, asked, fits, valid}
+use Rattle.flash.specs.Base.{base, build}
+use Rattle.trailer.specs.Trailer.{magicBytes, trailer, magicOf, markOf, isGood, noMagic, isUnset, hasValue, written, legal}
+use Rattle.causes.specs.Header.{headerMagic, headerSize}
+use Rattle.causes.specs.Check.{sizes, head, withSizes, structure, digestAt, check, isAccepted, accepted}
+use Rattle.causes.specs.Image.{Image}
+use Rattle.causes.specs.Written as writer
+use Rattle.plan.specs.declared.Course.the-variants.{Damage, Clear}
+use Rattle.plan.specs.Decision.{stepA, continue, stepB, stateC, asks, judged, decide}
+use Rattle.recovery.specs.Statement.{Swapped, never}
+use Rattle.answers.specs.declared.Refusal.{Refusal}
+use Rattle.answers.specs.declared.Outcome.{Outcome}
+use Rattle.loader.specs.PowerUp.{dataOf, refused, fullStart}
+use Rattle.demands.specs.Promise.{met}
+use Rattle.demands.specs.Demand1.{Ends, demand-1, damage-untouched, misfit-untouched}
+use Rattle.demands.specs.Demand2.{exchange-of-image, clear-out-of-none}
+use Rattle.demands.specs.Demand3.{demand-3}
+use Rattle.demands.specs.Boots.{boots-what-was-checked}
+use Rattle.demands.specs.Instances.{small, unread, image, image-whole, ending, flash, for-test, for-good, on-trial, test-due, permanent-due, revert-due, harmed, harm-comes}
+
+-- ---- demand 3: the image that was destroyed in slot 1 stands in slot 0, and is booted
+
+pub exchanged-after-harm : (fullStart true small 1582 harmed .flash ≡ fullStart true small 1582 for-test .flash)
+    × Swapped (build small) for-test (fullStart true small 1582 harmed .flash)
+unfolding small
+exchanged-after-harm = demand-3 test-due harm-comes (omega arith) (met true small 1582 for-test) (met true small 1582 harmed)
+
+-- the header size of the image in slot 1
+image-says-32 : headerSize image ≡ 32
+unfolding image writer.written writer.writtenHeader headerSize field part little
+image-says-32 = refl
+
+pub says-32 : (t0 t1 : List ℕ) → headerSize (dataOf small (flash t0 t1 .in1)) ≡ 32
+unfolding dataOf flash small
+says-32 t0 t1 = ap headerSize (take-at image t1 512 image-whole) ∙ image-says-32
+
+pub boots-after-harm : fullStart true small 1582 harmed .answer .outcome ≡ Outcome.Boot 32
+unfolding small for-test
+boots-after-harm = boots-what-was-checked test-due harm-comes (omega arith) (met true small 1582 harmed) ∙ ap Outcome.Boot (says-32 _ _)
+
+pub boots-permanent : fullStart true small 1584 for-good .answer .outcome ≡ Outcome.Boot 32
+unfolding small for-good
+boots-permanent = boots-what-was-checked permanent-due never (omega arith) (met true small 1584 for-good) ∙ ap Outcome.Boot (says-32 _ _)
+
+pub boots-reverted : fullStart true small 1584 on-trial .answer .outcome ≡ Outcome.Boot 32
+unfolding small on-trial
+boots-reverted = boots-what-was-checked revert-due never (omega arith) (met true small 1584 on-trial) ∙ ap Outcome.Boot (says-32 _ _)
+
+-- ---- demand 2: what is exchanged is an image, what is cleared out is none
+
+pub image-in-slot-1 : Image (dataOf small (for-test .in1))
+image-in-slot-1 = exchange-of-image small for-test (test-due .which) (test-due .decided)
+
+-- erased data bytes, marked for test
+unfoldable pub no-image : Flash
+no-image = record { in0 = blank 1024; in1 = blank 512 ++ ending [] [] magicBytes; in2 = blank 1024 }
+
+cleared : decide accepted (build small) no-image ≡ Clear
+unfolding no-image small ending base decide judged asks stepA stepB continue stateC written legal hasValue isUnset noMagic isGood markOf magicOf
+    trailer magicBytes put part blank same accepted isAccepted check digestAt structure withSizes head sizes headerMagic field little
+cleared = refl
+
+pub no-image-in-slot-1 : Image (dataOf small (no-image .in1)) → ⊥
+no-image-in-slot-1 = clear-out-of-none small no-image cleared
+
+-- ---- demand 1: how a power-up ends; damage is refused with nothing written
+
+pub ends-after-harm : Ends (fullStart true small 1582 harmed .answer .outcome)
+ends-after-harm = demand-1 (met true small 1582 harmed)
+
+-- "Marks 01, ff in sector n − 1 with slot 0 Good and copy done Unset"
+unfoldable pub damaged : Flash
+damaged = record { in0 = blank 512 ++ put (ending [] [] magicBytes) 474 (1 ∷ []); in1 = blank 1024; in2 = blank 1024 }
+
+damage : (valid (build small) damaged ≡ true) × (decide accepted (build small) damaged ≡ Damage)
+unfolding damaged small ending base valid fits asked every decide judged asks stepA stepB continue stateC written legal hasValue isUnset noMagic
+    isGood markOf magicOf trailer magicBytes put part blank same
+damage = (refl, refl)
+
+pub damage-left : (fullStart true small 4000 damaged .answer ≡ refused Refusal.Damage damaged .answer)
+    × (fullStart true small 4000 damaged .flash ≡ damaged)
+damage-left = damage-untouched (met true small 4000 damaged) (damage .0) (damage .1)
+
+-- a slot of one sector
+pub misfit-left : (fullStart true (record { unit = 1; sector = 512; sectors = 1 }) 4000 damaged .answer ≡ refused Refusal.Geometry damaged .answer)
+    × (fullStart true (record { unit = 1; sector = 512; sectors = 1 }) 4000 damaged .flash ≡ damaged)
+unfolding damaged base valid fits asked every blank
+misfit-left = misfit-untouched (met true (record { unit = 1; sector = 512; sectors = 1 }) 4000 damaged) refl
