@@ -50,6 +50,10 @@ pub boots-after-harm : fullStart true small 1582 harmed .answer .outcome ≡ Out
 unfolding small for-test
 boots-after-harm = boots-what-was-checked test-due harm-comes (omega arith) (met true small 1582 harmed) ∙ ap Outcome.Boot (says-32 _ _)
 
+pub boots-test : fullStart true small 1582 for-test .answer .outcome ≡ Outcome.Boot 32
+unfolding small for-test
+boots-test = boots-what-was-checked test-due never (omega arith) (met true small 1582 for-test) ∙ ap Outcome.Boot (says-32 _ _)
+
 pub boots-permanent : fullStart true small 1584 for-good .answer .outcome ≡ Outcome.Boot 32
 unfolding small for-good
 boots-permanent = boots-what-was-checked permanent-due never (omega arith) (met true small 1584 for-good) ∙ ap Outcome.Boot (says-32 _ _)

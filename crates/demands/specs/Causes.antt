@@ -206,3 +206,14 @@ module _ {checked : Bool} {g : Geometry} {b : ℕ} {f f' : Flash} {a : Answer} (
   pub refusal-4-due : ToD a → (c : Cause) → check (dataOf g (f' .in0)) ≡ Rejected c → 3 ≤ numberOf c → checked ≡ true
       → a .outcome ≡ Outcome.Refused (Refusal.Image c)
   refusal-4-due to = four (start-at-D to)
+
+  -- so that no cause goes with the other refusal
+  pub not-4-of-1-or-2 : (c : Cause) → numberOf c ≤ 2 → a .outcome ≡ Outcome.Refused (Refusal.Image c) → ⊥
+  not-4-of-1-or-2 c l e = omega (arith, refusal-4 c e .least)
+
+  pub not-3-of-3-to-5 : (c : Cause) → 3 ≤ numberOf c → check (dataOf g (f' .in0)) ≡ Rejected c → a .outcome ≡ Outcome.Refused Refusal.Header
+      → ⊥
+  not-3-of-3-to-5 c l k e =
+      let m = refusal-3 e in
+      let same : m .cause ≡ c = cc (m .met) in
+      omega (arith, m .most, ap numberOf same)

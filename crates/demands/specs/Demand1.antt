@@ -68,6 +68,24 @@ start-ends checked g b f = go (valid (build g) f) refl (isDamage (decide accepte
 pub demand-1 : {checked : Bool} {g : Geometry} {b : ℕ} {f f' : Flash} {a : Answer} → Start checked g b f a f' → Ends (a .outcome)
 demand-1 {checked} {g} {b} {f} q = subst Ends (sym (ap (λ (r : Result). r .answer .outcome) (q .promised))) (start-ends checked g b f)
 
+-- A refusal of a power-up is one of 1 to 4 (each of them comes: `starred`). 5 to 7 are those of marking and confirming; 8 does not come.
+module _ {checked : Bool} {g : Geometry} {b : ℕ} {f f' : Flash} {a : Answer} (q : Start checked g b f a f') (r : Refusal)
+    (e : a .outcome ≡ Outcome.Refused r) where
+  ends-so : Ends (Outcome.Refused r)
+  ends-so = subst Ends e (demand-1 q)
+
+  pub refusal-from-1 : 1 ≤ refusalNumber r
+  refusal-from-1 = go ends-so
+    where
+      go : Ends (Outcome.Refused r) → 1 ≤ refusalNumber r
+      go (refuses r l h) = l
+
+  pub refusal-to-4 : refusalNumber r ≤ 4
+  refusal-to-4 = go ends-so
+    where
+      go : Ends (Outcome.Refused r) → refusalNumber r ≤ 4
+      go (refuses r l h) = h
+
 -- "1 .. as before", "2 .. as before", with none done and count 0
 module _ {checked : Bool} {g : Geometry} {b : ℕ} {f f' : Flash} {a : Answer} (q : Start checked g b f a f') where
   unanswered : (r : Refusal) → fullStart checked g b f ≡ refused r f → (a ≡ refused r f .answer) × (f' ≡ f)

@@ -7,6 +7,7 @@ pub mod Demand3
 pub mod Boots
 pub mod Instances
 pub mod Applied
+pub mod Edges
 pub mod Starred
 pub mod LeastAllowance
 pub mod MarkLists
