@@ -128,7 +128,7 @@ module _ {checked : Bool} {xs : List ℕ} where
 
   -- a refusal by its cause
   by-3 : {o : Outcome} → AtD checked xs o → o ≡ Outcome.Refused Refusal.Header → MeetsLow xs
-  by-3 (meets-1-or-2 c e l) k = record { cause = c; met = e; least = numbers c .0; most = l }
+  by-3 (meets-1-or-2 c e l) k = record { cause = c; met = e; least = numbers c .0; most = omega (arith, l) }
   by-3 (meets-3-to-5 c e l t) k = let z : _≡_ {A = ℕ} 0 1 = cc in absurd (omega arith)
   by-3 (not-checked c e l t) k = let z : _≡_ {A = ℕ} 0 1 = cc in absurd (omega arith)
   by-3 (accepts e) k = let z : _≡_ {A = ℕ} 0 1 = cc in absurd (omega arith)
