@@ -24,7 +24,7 @@ use Rattle.loader.specs.PowerUp.{Result, carried, answered, refused, onCourse, 
 use Rattle.demands.specs.Promise.{Start}
 
 -- the areas that a power-up leaves are those of the list in force
-areas : (checked : Bool) (g : Geometry) (b : ℕ) (f : Flash)
+pub areas : (checked : Bool) (g : Geometry) (b : ℕ) (f : Flash)
     → fullStart checked g b f .flash ≡ steps (build g) (inForce accepted (build g) f) (start b f) .flash
 unfolding fullStart inForce onCourse answered carried refused listOf steps
 areas checked g b f = go (valid (build g) f) (decide accepted (build g) f)

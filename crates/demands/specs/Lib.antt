@@ -14,3 +14,5 @@ pub mod MarkLists
 pub mod Marking
 pub mod MarkedNext
 pub mod ConfirmedNext
+pub mod Touched
+pub mod Stopped

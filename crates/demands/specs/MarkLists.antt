@@ -1,7 +1,7 @@
 -- The lists of marking and confirming, for any build: each unit that they write is erased where the marks are Unset that document 01 asks
 -- for, and what they leave in their area.
 use mathlib.Core.Path.{_≡_, refl, sym, ap, _∙_}
-use mathlib.Core.List.{List, _++_}
+use mathlib.Core.List.{List, [], _∷_, _++_}
 use mathlib.Core.Bool.{Bool, true, false, false≢true}
 use Prim.Native.Nat.{ℕ, _/_}
 use Rattle.spans.specs.Bytes.{part, put, blank, same}
@@ -10,13 +10,18 @@ use Rattle.spans.specs.Laws.{same-eq}
 use Rattle.flash.specs.declared.Offset.{Offset}
 use Rattle.flash.specs.Geometry.{startOf, after}
 use Rattle.flash.specs.Build.{Area, Build, geometry, Flash, area, with-area, trailerSector}
-use Rattle.flash.specs.Operations.{store, apply, runAll}
+use Rattle.flash.specs.Operations.{Op, store, apply, runAll}
 use Rattle.flash.specs.AreaLaws.{with-own, store-store}
 use Rattle.trailer.specs.declared.Magic.{Magic}
 use Rattle.trailer.specs.Trailer.{trailer, magicAt, okAt, magicBytes, magicOf, noMagic, markOf, markBytes, isUnset}
 use Rattle.plan.specs.Lists.{trailerUnit, mark, okOps, magicOps}
+use Rattle.recovery.specs.All.{All, none, one, all-append}
+use Rattle.recovery.specs.Windows.{Hidden, hidden-run}
 use Rattle.recovery.specs.Places.{Geo, unit-back, magic-unit, magic-units, ok-unit, writes-all}
 use Rattle.recovery.specs.Reading.{unset-blank}
+use Rattle.recovery.specs.Hiding.{wipeTrailer, hidden-ok, hidden-magic}
+use Rattle.recovery.specs.Sectors.{sector-unwiped}
+use Rattle.recovery.specs.Changes.{trailerOf, Only}
 use Rattle.recovery.specs.Begin.{trailer-ok}
 use Rattle.recovery.specs.Fresh.{Fresh, fresh-append, fresh-ok, fresh-magic, magic-behind-ok}
 
@@ -77,3 +82,15 @@ module _ {g : Build} (geo : Geo g) (a : Area) where
       run-magic (apply g (mark g a (okAt g) 1) f) ∙ ap (store a (placeIn g a (magicAt g)) magicBytes) (mark-ok f)
       ∙ store-store a (placeIn g a (okAt g)) (placeIn g a (magicAt g)) (markBytes g 1) magicBytes f
   run-marking false f = run-magic f
+
+-- and what is not: sectors other than the area's trailer sector are as they were
+module _ {g : Build} (geo : Geo g) (a : Area) (p : Bool) (f : Flash) where
+  trailer-only : (ops : List Op) → All (Hidden g (wipeTrailer g a)) ops → Only g (trailerOf g a ∷ []) f (runAll g ops f)
+  trailer-only ops hs b k (one e none) =
+      sector-unwiped geo a b (trailerSector g a) k (runAll g ops f) f e (hidden-run hs f)
+
+  pub ok-only : Only g (trailerOf g a ∷ []) f (runAll g (okOps g a p) f)
+  ok-only = trailer-only (okOps g a p) (hidden-ok geo a p)
+
+  pub marks-only : Only g (trailerOf g a ∷ []) f (runAll g (okOps g a p ++ magicOps g a) f)
+  marks-only = trailer-only (okOps g a p ++ magicOps g a) (all-append (hidden-ok geo a p) (hidden-magic geo a))

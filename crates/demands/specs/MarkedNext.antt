@@ -138,7 +138,11 @@ data-marked g p xs =
 pub marked-due : (p : Bool) {g : Geometry} {f f' : Flash} {a : Marked} → Marks (marking p) g f a f' → a .ending ≡ Ending.Written
     → accepted (dataOf g (f .in1)) ≡ true → Due accepted (build g) f' (markedFor p) p
 unfolding dataOf
-marked-due p {g} {f} {f'} q w y = record { fits = valid-same (build g) f f' lengths ∙ marking-allowed p q w .fits; which = which p; decided = decided }
+marked-due p {g} {f} {f'} q w y = record {
+  fits = valid-same (build g) f f' lengths ∙ marking-allowed p q w .fits;
+  which = which p;
+  decided = decided;
+}
   where
     e : f' ≡ flashOf (f .in0) (magicPut (build g) slot1 (okPut (build g) slot1 p (f .in1))) (f .in2)
     e = whole-areas (marking-ends p q) w

@@ -10,7 +10,7 @@ use lib.Dec.{eqb}
 use borrow.Author.Tests.{le-ltb}
 use Rattle.spans.specs.Choice.{pick, both}
 use Rattle.flash.specs.declared.Geometry.{Geometry}
-use Rattle.flash.specs.Build.{slot0, slot1, Flash, valid}
+use Rattle.flash.specs.Build.{slot0, slot1, Build, Flash, valid}
 use Rattle.flash.specs.Base.{base, build}
 use Rattle.flash.specs.Operations.{Op, runAll}
 use Rattle.trailer.specs.Trailer.{trailer, okAt, copyDoneAt, magicOf, isGood, noMagic, markOf, isUnset, hasValue}
@@ -20,6 +20,8 @@ use Rattle.plan.specs.Lengths.{one-if, length-ok}
 use Rattle.recovery.specs.Cuts.{run-all}
 use Rattle.recovery.specs.Places.{Geo}
 use Rattle.recovery.specs.Reading.{unset-blank}
+use Rattle.recovery.specs.Changes.{Place, Only, trailerOf}
+use Rattle.recovery.specs.Statement.{sectorOf}
 use Rattle.recovery.specs.Validity.{of-valid}
 use Rattle.recovery.specs.Fresh.{Fresh, fresh-ok}
 use Rattle.recovery.specs.Bridge.{fresh-steps}
@@ -33,7 +35,7 @@ use Rattle.marking.specs.Standing.{standingOf}
 use Rattle.marking.specs.MarkLaws.{length-marking}
 use Rattle.marking.specs.Counts.{by-refusals}
 use Rattle.demands.specs.Promise.{Marks}
-use Rattle.demands.specs.MarkLists.{okPut, magicPut, fresh-marking, run-ok, run-marking}
+use Rattle.demands.specs.MarkLists.{okPut, magicPut, fresh-marking, run-ok, run-marking, ok-only, marks-only}
 
 unfoldable pub oneOf : List ℕ → ℕ → Bool
 oneOf [] n = false
@@ -164,3 +166,24 @@ unfolding confirming confirmIfNeeded
 confirming-allowed {g} {f} q h =
     written-allowed g f (confirmable g f) (okOps (build g) slot0 true) Refusal.Needs
     (ap (λ (r : MarkResult). r .answer .ending) (sym (q .promised)) ∙ h)
+
+-- ---- only slot 1's trailer sector, only slot 0's, is not as before, however it ends
+
+ends-only : {numbers : List ℕ} {count : ℕ} {f whole f' : Flash} {a : Marked} (g : Build) (places : List Place)
+    → MarkEnds numbers count f whole a f' → (a .ending ≡ Ending.Written → Only g places f whole) → Only g places f f'
+ends-only g places (writes e c h) o b k n = ap (λ (x : Flash). sectorOf g x b k) h ∙ o e b k n
+ends-only g places (refuses r m e c h) o b k n = ap (λ (x : Flash). sectorOf g x b k) h
+
+pub marking-only : (p : Bool) {g : Geometry} {f f' : Flash} {a : Marked} → Marks (marking p) g f a f'
+    → Only (build g) (trailerOf (build g) slot1 ∷ []) f f'
+marking-only p {g} {f} q =
+    ends-only (build g) (trailerOf (build g) slot1 ∷ []) (marking-ends p q) (λ w.
+    let geo : Geo (build g) = of-valid (build g) f (marking-allowed p q w .fits) .geo in
+    rw (← run-marking geo slot1 p f) (marks-only geo slot1 p f))
+
+pub confirming-only : {g : Geometry} {f f' : Flash} {a : Marked} → Marks confirming g f a f'
+    → Only (build g) (trailerOf (build g) slot0 ∷ []) f f'
+confirming-only {g} {f} q =
+    ends-only (build g) (trailerOf (build g) slot0 ∷ []) (confirming-ends q) (λ w.
+    let geo : Geo (build g) = of-valid (build g) f (confirming-allowed q w .fits) .geo in
+    rw (← run-ok geo slot0 true f) (ok-only geo slot0 true f))

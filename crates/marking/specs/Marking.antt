@@ -25,7 +25,8 @@ pub record MarkResult : Type 0 where
 unfoldable pub refusedMark : Refusal → Flash → MarkResult
 refusedMark r f = record { answer = record { ending = Ending.Refused r; count = 0 }; flash = f }
 
--- 8: "a unit to be written is not erased", after the counted operations
+-- 8: "a unit to be written is not erased", after the counted operations. Neither it nor Stopped comes: the allowance is the list's length
+-- (`written-whole`), and what is written was Unset (`marking-ends`, `confirming-ends` of crate `demands`).
 unfoldable pub endingOf : End → Ending
 endingOf End.Going = Ending.Written
 endingOf End.Stopped = Ending.Written
