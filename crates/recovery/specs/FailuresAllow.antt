@@ -13,7 +13,8 @@ use Rattle.flash.specs.HarmAllows.{target, begins, CanLeave, torn-erase, torn-w
 use Rattle.recovery.specs.Cuts.{at-cut}
 use Rattle.recovery.specs.Statement.{Failures, never, again}
 use Rattle.recovery.specs.Validity.{valid-same}
-use Rattle.recovery.specs.Changes.{after-some, same-lengths}
+use Rattle.recovery.specs.Named.{after-some}
+use Rattle.recovery.specs.Changes.{same-lengths}
 
 module _ {g : Build} {plan : Flash → List Op} where
   pub one-failure : {f f' : Flash} → Cut g (plan f) f f' → Failures g plan f f'
