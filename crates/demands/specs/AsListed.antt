@@ -22,8 +22,8 @@ use Rattle.recovery.specs.BaseMoves.{base-sound}
 use Rattle.recovery.specs.Bridge as bridge
 use Rattle.answers.specs.declared.Refusal.{Refusal}
 use Rattle.answers.specs.declared.Outcome.{Outcome}
-use Rattle.loader.specs.PowerUp.{Result, bootOf, ended, carried, answered, refused, onCourse, fullStart}
-use Rattle.loader.specs.Results.{isDamage, undamaged}
+use Rattle.loader.specs.PowerUp.{Result, bootOf, ended, carried, answered, refused, isDamage, onCourse, fullStart}
+use Rattle.loader.specs.Results.{undamaged}
 
 pub sound : (g : Geometry) (f : Flash) → valid (build g) f ≡ true → Sound (build g)
 unfolding base

@@ -22,8 +22,7 @@ use Rattle.recovery.specs.NeverLost.{outcome-of}
 use Rattle.recovery.specs.Demand3 as recovery
 use Rattle.answers.specs.declared.Answer.{Answer}
 use Rattle.answers.specs.declared.Outcome.{Outcome}
-use Rattle.loader.specs.PowerUp.{Result, started, dataOf, bootOf, ended, answered}
-use Rattle.loader.specs.Results.{isDamage}
+use Rattle.loader.specs.PowerUp.{Result, started, dataOf, bootOf, ended, answered, isDamage}
 use Rattle.demands.specs.Promise.{Start}
 use Rattle.demands.specs.AsListed.{sound, by-state}
 use Rattle.demands.specs.Causes.{at-D, boots}

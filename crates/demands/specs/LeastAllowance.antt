@@ -25,8 +25,7 @@ use Rattle.recovery.specs.Statement.{Failures, again, Due}
 use Rattle.recovery.specs.Starts.{FinishedBy, at-last, once-more}
 use Rattle.recovery.specs.LeastAllowance as recovery
 use Rattle.answers.specs.declared.Outcome.{Outcome}
-use Rattle.loader.specs.PowerUp.{Result, bootOf, fullStart}
-use Rattle.loader.specs.Results.{isDamage}
+use Rattle.loader.specs.PowerUp.{Result, bootOf, isDamage, fullStart}
 use Rattle.demands.specs.AsListed.{asListed, as-listed}
 
 -- Starts with these allowances, one after the other, from f: all answer Stopped but the last, which answers `outcome` and leaves `end`.

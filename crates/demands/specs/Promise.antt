@@ -6,9 +6,8 @@ use Rattle.flash.specs.declared.Geometry.{Geometry}
 use Rattle.flash.specs.Build.{Flash}
 use Rattle.answers.specs.declared.Answer.{Answer}
 use Rattle.answers.specs.declared.Marked.{Marked}
-use Rattle.loader.specs.PowerUp.{Result, fullStart}
+use Rattle.loader.specs.PowerUp.{Result, result, fullStart}
 use Rattle.marking.specs.Marking.{MarkResult}
-use Rattle.loader.specs.Results.{result}
 use Rattle.marking.specs.MarkResults.{markResult}
 
 -- the function was called with the areas f, and left the answer a and the areas f' (its `ensures`, word for word)

@@ -1,6 +1,6 @@
 -- Document 01, "What a power-up does": D, the answer, the plain start and the full start.
 use mathlib.Core.List.{List}
-use mathlib.Core.Bool.{Bool, false}
+use mathlib.Core.Bool.{Bool, true, false}
 use Prim.Native.Nat.{ℕ, _*_, _-_}
 use lib.ListN.{take}
 use Rattle.spans.specs.Choice.{pick}
@@ -24,6 +24,10 @@ use Rattle.answers.specs.declared.Answer.{Answer}
 pub record Result : Type 0 where
   pub answer : Answer
   pub flash : Flash
+
+-- an answer with what the areas then hold, as the promises pair them
+abbrev pub result : Answer → Flash → Result
+result a f = record { answer = a; flash = f }
 
 -- ---- D
 
@@ -71,6 +75,17 @@ answered checked g b course s = record {
 -- "Refusals 1, 2 and 5 to 7 have count 0"; "on 1 and 2 it is none"; the areas are as before
 unfoldable pub refused : Refusal → Flash → Result
 refused r f = record { answer = record { done = Done.None; found = 0; count = 0; outcome = Outcome.Refused r }; flash = f }
+
+-- damage, and every other course
+unfoldable pub isDamage : Course → Bool
+isDamage Damage = true
+isDamage (FromLineThree p) = false
+isDamage (Resume c) = false
+isDamage Test = false
+isDamage Permanent = false
+isDamage Revert = false
+isDamage Clear = false
+isDamage Nothing = false
 
 -- refusal 2 before anything is written; else the list in force
 unfoldable pub onCourse : Bool → Geometry → ℕ → Flash → Course → Result

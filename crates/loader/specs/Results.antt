@@ -1,4 +1,4 @@
--- An answer with what the areas then hold, as the promises pair them.
+-- Laws for the code of both starts: what it answers is what PowerUp.antt says.
 use mathlib.Core.Path.{_≡_, refl, _∙_}
 use mathlib.Core.List.{List, []}
 use mathlib.Core.Bool.{Bool, true, false}
@@ -16,12 +16,7 @@ use Rattle.moves.specs.Areas.{state}
 use Rattle.answers.specs.declared.Refusal.{Refusal}
 use Rattle.answers.specs.declared.Outcome.{Outcome}
 use Rattle.answers.specs.declared.Answer.{Answer}
-use Rattle.loader.specs.PowerUp.{Result, bootOf, ended, carried, answered, refused, onCourse}
-
-abbrev pub result : Answer → Flash → Result
-result a f = record { answer = a; flash = f }
-
--- ---- laws for the code
+use Rattle.loader.specs.PowerUp.{result, bootOf, ended, carried, answered, refused, isDamage, onCourse}
 
 -- whether slot 0 is booted rests on slot 0 alone
 ended-slot0 : (checked : Bool) (g : Geometry) (x0 x1 x2 : List ℕ) (e : End) → ended checked g (flashOf x0 [] []) e
@@ -38,17 +33,6 @@ pub took : (checked : Bool) (g : Geometry) (b : ℕ) (course : Course) (x0 x1 x2
     ≡ answered checked g b course (state x0 x1 x2 r)
 unfolding answered
 took checked g b course x0 x1 x2 r done found outcome d f o = rw (d, f, o, ended-slot0 checked g x0 x1 x2 (r .end)) refl
-
--- damage, and every other course
-unfoldable pub isDamage : Course → Bool
-isDamage Damage = true
-isDamage (FromLineThree p) = false
-isDamage (Resume c) = false
-isDamage Test = false
-isDamage Permanent = false
-isDamage Revert = false
-isDamage Clear = false
-isDamage Nothing = false
 
 module _ (checked : Bool) (g : Geometry) (b : ℕ) (f : Flash) where
   pub damaged : (c : Course) → isDamage c ≡ true → onCourse checked g b f c ≡ refused Refusal.Damage f

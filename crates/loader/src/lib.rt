@@ -1,8 +1,7 @@
 // The loader: the plain start and the full start; specs/PowerUp.antt says what each does.
 ghost use mathlib.Core.Path.{_≡_};
 ghost use Rattle.plan.specs.Asked.{flashOf};
-ghost use Rattle.loader.specs.PowerUp.{fullStart, powerUp};
-ghost use Rattle.loader.specs.Results.{result};
+ghost use Rattle.loader.specs.PowerUp.{result, fullStart, powerUp};
 use answers::Answer;
 use answers::Refusal;
 use flash::Geometry;

@@ -1,4 +1,4 @@
-use Rattle.loader.specs.Results.{isDamage}
+use Rattle.loader.specs.PowerUp.{isDamage}
 use borrow.Author.Needs.{needs}
 use Rattle.loader.proofs.starts.is_damage.Statement.{statement}
 use Rattle.loader.proofs.starts.is_damage.Tie as tie

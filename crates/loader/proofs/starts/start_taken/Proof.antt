@@ -2,8 +2,8 @@ use Rattle.answers.specs.declared.Refusal.{Refusal}
 use mathlib.Core.Path.{_≡_, sym, ap, _∙_}
 use mathlib.Core.Bool.{true, false}
 use Rattle.plan.specs.Asked.{flashOf}
-use Rattle.loader.specs.PowerUp.{onCourse}
-use Rattle.loader.specs.Results.{isDamage, damaged, undamaged, refusing}
+use Rattle.loader.specs.PowerUp.{isDamage, onCourse}
+use Rattle.loader.specs.Results.{damaged, undamaged, refusing}
 use borrow.Author.Needs.{needs}
 use Rattle.loader.proofs.starts.start_taken.Statement.{statement}
 use Rattle.loader.proofs.starts.start_taken.Tie as tie
