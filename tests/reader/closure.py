@@ -5,9 +5,10 @@ statements of the theorems that docs/ARCHITECTURE.md names in its tables "From e
 file's `use` lines, to its declaration, and so on: of a definition the whole counts, of a data type or record its constructors or fields, of
 a type that source declares its `struct` or `enum`; of a theorem in the tables the statement alone, with the parameters of the sections that
 it stands in. A local variable called as a definition in scope counts as that definition: the list may be too long by that, never too short.
+Tables that compute, and instances, have a table of links of their own: what they add is listed apart, for nothing rests on it.
 
-    closure.py              compares with the table "What a reader must believe, file by file": files, lines, names of the library
-    closure.py --list       prints the table as it should be, with the subjects that it has now; --write puts it in its place
+    closure.py              compares both tables, "file by file", of docs/ARCHITECTURE.md: files, lines, names of the library
+    closure.py --list       prints them as they should be, with the subjects that they have now; --write puts them in their place
     closure.py --names      prints each definition, and through which other it was reached
     closure.py --self-test  tries all this on a small made-up tree
 """
@@ -20,7 +21,9 @@ sys.dont_write_bytecode = True
 from source import Source, Specs, Tree, Unread, names  # noqa: E402
 
 LINKS = "From each demand to its theorem"
-TABLE = "What a reader must believe, file by file"
+TRIED = "What the definitions are tried on"
+BELIEVED_TABLE = "What a reader must believe, file by file"
+TRIED_TABLE = "What is tried on it, file by file"
 HEADING = "| File | Subject (document 01's section) | Lines |\n|---|---|---|"
 OF_LIBRARY = "Of the library:"
 # words in the tables that are no name of a declaration
@@ -46,17 +49,18 @@ class Documents:
         return [word for word in re.findall(r"`(\w+)`", m[1].split(". ")[0]) if word in crates]
 
     def links(self):
-        """The words of the tables of demands, row by row."""
+        """The words of the tables of demands, row by row, and whether the row is of what the definitions are tried on."""
+        tried = self.section("###", TRIED)
         for row in re.findall(r"^\|.*\|$", self.section("##", LINKS), re.M):
-            yield [word for word in re.findall(r"`([^`]+)`", row) if not re.search(r"\s", word)]
+            yield [word for word in re.findall(r"`([^`]+)`", row) if not re.search(r"\s", word)], row in tried
 
-    def table(self):
-        """For each file of the reader's table its subject and its lines."""
-        rows = re.findall(r"^\| `([^`]+)` \| (.*?) \| *(\d*) *\|$", self.section("###", TABLE), re.M)
+    def table(self, title):
+        """For each file of a reader's table its subject and its lines."""
+        rows = re.findall(r"^\| `([^`]+)` \| (.*?) \| *(\d*) *\|$", self.section("###", title), re.M)
         return {file: (subject, int(lines or 0)) for file, subject, lines in rows}
 
     def library(self):
-        m = re.search(rf"^{OF_LIBRARY}(.*?)\n\n", self.section("###", TABLE), re.M | re.S)
+        m = re.search(rf"^{OF_LIBRARY}(.*?)\n\n", self.section("###", BELIEVED_TABLE), re.M | re.S)
         return set(re.findall(r"`([^`]+)`", m[1])) if m else set()
 
     def dead_paths(self):
@@ -68,22 +72,22 @@ class Documents:
 
 
 def roots_of(tree, docs):
-    """Contracts and theorems, and what is wrong with the documents that name them."""
-    roots, faults = [], list(docs.dead_paths())
+    """Contracts and theorems; what is tried; and what is wrong with the documents that name them."""
+    roots, trials, faults = [], [], list(docs.dead_paths())
     for crate in docs.entry_crates(tree.crates):
         entries = [one for one in tree.files[f"{crate}/src/lib.rt"].functions.values() if one.public]
         faults += [f"{crate}::{one.name}: an entry point, and it has a `requires`" for one in entries if one.asks]
         roots += entries
     known = {name for file in tree.of(Source) for name in [*file.functions, *file.declared, *file.variants]} | WORDS | set(tree.crates)
-    for row in docs.links():
+    for row, tried in docs.links():
         for word in row:
             where = [file for file in tree.of(Specs) if word in file.declared]
             # where several files declare it, those that the row names
             named = [file for file in where if any(f"/{file.file}".endswith(f"/{path}") for path in row if path.endswith(".antt"))]
-            roots += [file.declared[word] for file in named or where]
+            (trials if tried else roots).extend(file.declared[word] for file in named or where)
             if not where and "/" not in word and not word.endswith(".antt") and word.split("::")[-1] not in known:
                 faults.append(f"`{word}`: named in `{LINKS}`, and nothing declares it")
-    return roots, faults
+    return roots, trials, faults
 
 
 def closure(tree, roots):
@@ -111,48 +115,62 @@ def lines_of(reached):
     return {file: len(lines) for file, lines in sorted(files.items())}
 
 
-def faults_of(docs, files, library):
-    """Where the reader's table differs from what is reached."""
-    table = docs.table()
-    for file in sorted(files.keys() - table.keys()):
-        yield f"{file}: a reader must believe {files[file]} lines of it, and the table leaves it out"
-    for file in sorted(table.keys() - files.keys()):
-        yield f"{file}: in the table, and nothing in it is reached"
-    for file in sorted(files.keys() & table.keys()):
-        subject, lines = table[file]
-        if lines != files[file]:
-            yield f"{file}: {files[file]} lines are reached, the table says {lines}"
-        if not subject.strip():
-            yield f"{file}: the table does not say what it is about"
+def faults_of(docs, tables, library):
+    """Where the reader's tables differ from what is reached."""
+    for title, files in tables.items():
+        table = docs.table(title)
+        for file in sorted(files.keys() - table.keys()):
+            yield f"{file}: {files[file]} lines of it are reached, and `{title}` leaves it out"
+        for file in sorted(table.keys() - files.keys()):
+            yield f"{file}: in `{title}`, and nothing of it is reached"
+        for file in sorted(files.keys() & table.keys()):
+            if table[file][1] != files[file]:
+                yield f"{file}: {files[file]} lines of it are reached, `{title}` says {table[file][1]}"
+            if not table[file][0].strip():
+                yield f"{file}: `{title}` does not say what it is about"
     for name in sorted(library ^ docs.library()):
-        yield f"{name}: of the library, {'and the table leaves it out' if name in library else 'in the table and not reached'}"
+        yield f"{name}: of the library, {'and the document leaves it out' if name in library else 'in the document and not reached'}"
 
 
-def table_of(docs, files, library):
-    """The table as it should be: its rows in their present order, then the files that are new."""
-    table = docs.table()
+def rows_of(docs, title, files):
+    """A table as it should be: its rows in their present order, then the files that are new."""
+    table = docs.table(title)
     order = [file for file in table if file in files] + [file for file in files if file not in table]
-    rows = [f"| `{file}` | {table.get(file, ('', 0))[0]} | {files[file]} |" for file in order]
-    line, wrapped = OF_LIBRARY, []
+    return "\n".join([HEADING] + [f"| `{file}` | {table.get(file, ('', 0))[0]} | {files[file]} |" for file in order])
+
+
+def library_line(library):
+    line, lines = OF_LIBRARY, []
     for name in sorted(library):
         if len(line) + len(name) > 115:
-            wrapped, line = wrapped + [line], ""
+            lines, line = lines + [line], ""
         line += f" `{name}`" if line else f"`{name}`"
-    return "\n".join([HEADING, *rows, "", *wrapped, line])
+    return "\n".join([*lines, line])
+
+
+def rewritten(docs, tables, library):
+    """The document with both tables as they should be."""
+    text = docs.text
+    for title, files in tables.items():
+        old = docs.section("###", title)
+        new = re.sub(r"^\| File \|.*?(?=\n\n)", lambda m: rows_of(docs, title, files), old, count=1, flags=re.M | re.S)
+        text = text.replace(old, re.sub(rf"^{OF_LIBRARY}.*?(?=\n\n)", lambda m: library_line(library), new, flags=re.M | re.S))
+    return text
 
 
 def examine(root):
     tree, docs = Tree(root), Documents(root)
-    roots, faults = roots_of(tree, docs)
-    reached, library = closure(tree, roots)
-    files = lines_of(reached)
-    return docs, roots, reached, files, library, faults + list(faults_of(docs, files, library))
+    roots, trials, faults = roots_of(tree, docs)
+    believed, _ = closure(tree, roots)
+    reached, library = closure(tree, roots + trials)
+    tables = {BELIEVED_TABLE: lines_of(believed), TRIED_TABLE: lines_of({one for one in reached if one not in believed})}
+    return docs, reached, tables, library, faults + list(faults_of(docs, tables, library))
 
 
 PROMISES = "The entry points have no `requires`: `go` (`code`). Every other function is an inner one.\n\n"
 ARCHITECTURE = f"""# It
 ## Crates
-### {TABLE}
+### {BELIEVED_TABLE}
 {HEADING}
 | `base/specs/Bytes.antt` | bytes | 7 |
 | `base/src/lib.rt` | sizes | 3 |
@@ -160,11 +178,17 @@ ARCHITECTURE = f"""# It
 
 {OF_LIBRARY} `_≡_` `ℕ`
 
+### {TRIED_TABLE}
+{HEADING}
+| `base/specs/Bytes.antt` | one byte | 2 |
+
 ### Rules
 ## {LINKS}
 | Sentence | Where |
 |---|---|
 | it goes | `it-goes` (`code/specs/Laws.antt`), promise of `code::go` |
+### {TRIED}
+| one | `goes-once` |
 ## Rest
 """
 SPECS = """-- bytes
@@ -177,6 +201,8 @@ abbrev pub sizeOf : Size → ℕ
 sizeOf s = s .bytes
 unfoldable pub unused : ℕ → ℕ
 unused n = n
+abbrev pub once : ℕ
+once = 1
 pub data Big (n : ℕ) : Type 0 where
   big : Big n
 """
@@ -189,6 +215,7 @@ module _ (s : Size) (b : Big (s .bytes)) where
   pub it-goes : holds
   unfolding holds
   it-goes = record { unused = unused }
+  pub goes-once : bytes.once ≡ 1
 """
 CODE = """ghost use Prim.Native.Nat.{ℕ};
 ghost use Rattle.base.specs.Bytes.{sizeOf, unused};
@@ -232,6 +259,8 @@ def self_test():
     assert tried(arch, "| sizes |", "|  |") == ["base/src/lib.rt"]
     assert tried(arch, "| 3 |", "| 4 |") == ["base/src/lib.rt"]
     assert tried(arch, "| `base/src/lib.rt`", "| `code/src/lib.rt` | code | 3 |\n| `base/src/lib.rt`") == ["code/src/lib.rt"]
+    assert tried(arch, "| one byte | 2 |", "| one byte | 3 |") == ["base/specs/Bytes.antt"]
+    assert tried(laws, "bytes.once ≡ 1", "bytes.twice 1 ≡ 1") == ["base/specs/Bytes.antt"]
     assert tried(arch, " `ℕ`\n", " `ℕ` `refl`\n") == ["refl"]
     assert tried(arch, " `_≡_`", "") == ["_≡_"]
     # links that lead nowhere; an entry point that asks something
@@ -246,26 +275,23 @@ def main():
     self_test()
     if "--self-test" in sys.argv:
         return
-    docs, roots, reached, files, library, faults = examine(pathlib.Path(__file__).resolve().parents[2])
-    table = table_of(docs, files, library)
+    docs, reached, tables, library, faults = examine(pathlib.Path(__file__).resolve().parents[2])
     if "--list" in sys.argv:
-        print(table)
+        print("\n\n".join([*(rows_of(docs, title, files) for title, files in tables.items()), library_line(library)]))
     elif "--names" in sys.argv:
         for one in sorted(reached, key=lambda one: (one.file, one.name)):
             by = reached[one]
             print(f"{one.file}: {one.name}" + (f", by {by.name} of {by.file}" if by else ""))
     elif "--write" in sys.argv:
-        old = docs.section("###", TABLE)
-        new = re.sub(rf"^\| File \|.*?(?=\n\n(?!{OF_LIBRARY}))", lambda m: table, old, count=1, flags=re.M | re.S)
-        docs.path.write_text(docs.text.replace(old, new))
+        docs.path.write_text(rewritten(docs, tables, library))
     else:
         for fault in faults:
             print(fault, file=sys.stderr)
         if faults:
-            print("tests/reader/closure.py --write mends the files and lines of the table", file=sys.stderr)
+            print("tests/reader/closure.py --write mends the files and lines of the tables", file=sys.stderr)
             sys.exit(1)
-        print(f"{len(reached)} definitions of {len(files)} files, {sum(files.values())} lines, are what the contracts of "
-              f"{sum(hasattr(one, 'asks') for one in roots)} entry points and the theorems of the demands speak of: as docs/ARCHITECTURE.md says")
+        for title, files in tables.items():
+            print(f"{title}: {len(files)} files, {sum(files.values())} lines")
 
 
 try:
