@@ -7,8 +7,7 @@ use Rattle.flash.specs.Build.{Flash}
 use Rattle.answers.specs.declared.Answer.{Answer}
 use Rattle.answers.specs.declared.Marked.{Marked}
 use Rattle.loader.specs.PowerUp.{Result, result, fullStart}
-use Rattle.marking.specs.Marking.{MarkResult}
-use Rattle.marking.specs.MarkResults.{markResult}
+use Rattle.marking.specs.Marking.{MarkResult, markResult}
 
 -- the function was called with the areas f, and left the answer a and the areas f' (its `ensures`, word for word)
 pub record Start (checked : Bool) (g : Geometry) (b : ℕ) (f : Flash) (a : Answer) (f' : Flash) : Type 0 where

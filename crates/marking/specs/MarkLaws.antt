@@ -23,8 +23,8 @@ use Rattle.answers.specs.declared.Refusal.{Refusal}
 use Rattle.answers.specs.declared.Ending.{Ending}
 use Rattle.answers.specs.declared.Marked.{Marked}
 use Rattle.marking.specs.declared.taken.Standing.{Standing}
-use Rattle.marking.specs.Marking.{MarkResult, refusedMark, endingOf, wroteAll, unlessUnderWay, unmarked, markUnlessMarked, confirmable, confirmIfNeeded}
-use Rattle.marking.specs.MarkResults.{markResult, refusing-mark}
+use Rattle.marking.specs.Marking.{MarkResult, markResult, refusedMark, endingOf, wroteAll, unlessUnderWay, unmarked, markUnlessMarked, confirmable, confirmIfNeeded}
+use Rattle.marking.specs.MarkResults.{refusing-mark}
 use Rattle.marking.specs.Standing.{standingOf, byStanding, standing-says}
 
 pub length-marking : (g : Geometry) (p : Bool) → length (okOps (build g) slot1 p ++ magicOps (build g) slot1) ≡ one-if p + 16 / g .unit

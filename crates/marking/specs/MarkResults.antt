@@ -1,13 +1,10 @@
--- An answer of marking or confirming with what the areas then hold, as the promises pair them.
+-- Refusals of marking and confirming, as code answers them.
 use mathlib.Core.Path.{_≡_, refl, _∙_}
 use Rattle.flash.specs.Build.{Flash}
 use Rattle.answers.specs.declared.Refusal.{Refusal}
 use Rattle.answers.specs.declared.Ending.{Ending}
 use Rattle.answers.specs.declared.Marked.{Marked}
-use Rattle.marking.specs.Marking.{MarkResult, refusedMark}
-
-abbrev pub markResult : Marked → Flash → MarkResult
-markResult a f = record { answer = a; flash = f }
+use Rattle.marking.specs.Marking.{markResult, refusedMark}
 
 pub refusing-mark : (a : Marked) (r : Refusal) (f : Flash) → (a .ending ≡ Ending.Refused r) × (a .count ≡ 0) → markResult a f
     ≡ refusedMark r f

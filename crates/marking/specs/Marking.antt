@@ -22,6 +22,10 @@ pub record MarkResult : Type 0 where
   pub answer : Marked
   pub flash : Flash
 
+-- an answer with what the areas then hold, as the promises pair them
+abbrev pub markResult : Marked → Flash → MarkResult
+markResult a f = record { answer = a; flash = f }
+
 unfoldable pub refusedMark : Refusal → Flash → MarkResult
 refusedMark r f = record { answer = record { ending = Ending.Refused r; count = 0 }; flash = f }
 

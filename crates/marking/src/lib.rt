@@ -1,8 +1,7 @@
 // Marking and confirming; specs/Marking.antt says what each does.
 ghost use mathlib.Core.Path.{_≡_};
 ghost use Rattle.plan.specs.Asked.{flashOf};
-ghost use Rattle.marking.specs.Marking.{marking, confirming};
-ghost use Rattle.marking.specs.MarkResults.{markResult};
+ghost use Rattle.marking.specs.Marking.{markResult, marking, confirming};
 use answers::Marked;
 use answers::Refusal;
 use flash::Geometry;
