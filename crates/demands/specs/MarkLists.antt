@@ -21,7 +21,7 @@ use Rattle.recovery.specs.Places.{Geo, unit-back, magic-unit, magic-units, ok-u
 use Rattle.recovery.specs.Reading.{unset-blank}
 use Rattle.recovery.specs.Hiding.{wipeTrailer, hidden-ok, hidden-magic}
 use Rattle.recovery.specs.Sectors.{sector-unwiped}
-use Rattle.recovery.specs.Changes.{trailerOf, Only}
+use Rattle.recovery.specs.Named.{Only, trailerOf}
 use Rattle.recovery.specs.Begin.{trailer-ok}
 use Rattle.recovery.specs.Fresh.{Fresh, fresh-append, fresh-ok, fresh-magic, magic-behind-ok}
 

@@ -20,7 +20,7 @@ use Rattle.plan.specs.Lengths.{one-if, length-ok}
 use Rattle.recovery.specs.Cuts.{run-all}
 use Rattle.recovery.specs.Places.{Geo}
 use Rattle.recovery.specs.Reading.{unset-blank}
-use Rattle.recovery.specs.Changes.{Place, Only, trailerOf}
+use Rattle.recovery.specs.Named.{Place, Only, trailerOf}
 use Rattle.recovery.specs.Statement.{sectorOf}
 use Rattle.recovery.specs.Validity.{of-valid}
 use Rattle.recovery.specs.Fresh.{Fresh, fresh-ok}

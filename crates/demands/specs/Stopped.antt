@@ -21,8 +21,8 @@ use Rattle.recovery.specs.Statement.{Failures, again}
 use Rattle.answers.specs.declared.Answer.{Answer}
 use Rattle.answers.specs.declared.Refusal.{Refusal}
 use Rattle.answers.specs.declared.Outcome.{Outcome}
-use Rattle.loader.specs.PowerUp.{Result, judgedStart, started, dataOf, bootOf, refused, fullStart}
-use Rattle.loader.specs.Results.{isDamage, damaged}
+use Rattle.loader.specs.PowerUp.{Result, judgedStart, started, dataOf, bootOf, refused, isDamage, fullStart}
+use Rattle.loader.specs.Results.{damaged}
 use Rattle.demands.specs.Promise.{Start}
 use Rattle.demands.specs.AsListed.{asListed, as-listed}
 use Rattle.demands.specs.Touched.{first-operations}

@@ -18,11 +18,12 @@ use Rattle.plan.specs.Decision.{decide, listOf, okUnset, inForce, doneOf}
 use Rattle.recovery.specs.Statement.{sectorOf}
 use Rattle.recovery.specs.Validity.{of-valid}
 use Rattle.recovery.specs.Bridge.{in-force-steps}
-use Rattle.recovery.specs.Changes.{During, after-some, Only, named, in-force-only, same-lengths}
-use Rattle.recovery.specs.ClearOut.{Cleared, clear-out-only}
+use Rattle.recovery.specs.Named.{During, after-some, Only, named, Cleared}
+use Rattle.recovery.specs.Changes.{in-force-only, same-lengths}
+use Rattle.recovery.specs.ClearOut.{clear-out-only}
 use Rattle.answers.specs.declared.Answer.{Answer}
-use Rattle.loader.specs.PowerUp.{Result, refused, fullStart}
-use Rattle.loader.specs.Results.{isDamage, damaged}
+use Rattle.loader.specs.PowerUp.{Result, refused, isDamage, fullStart}
+use Rattle.loader.specs.Results.{damaged}
 use Rattle.demands.specs.Promise.{Start}
 use Rattle.demands.specs.AsListed.{sound, asListed, as-listed}
 use Rattle.demands.specs.Demand1.{misfit-untouched}

@@ -24,8 +24,8 @@ use Rattle.plan.specs.Decision.{decide, inForce}
 use Rattle.recovery.specs.All.{All, none, one, all-drop}
 use Rattle.recovery.specs.Statement.{Sound, Proper, sectorOf}
 use Rattle.recovery.specs.Validity.{of-valid}
-use Rattle.recovery.specs.Changes.{During, after-some, failed, place, Unnamed, targets, places, named, in-force-only}
-use Rattle.recovery.specs.ClearOut.{Cleared, okPlace}
+use Rattle.recovery.specs.Named.{During, after-some, failed, place, Unnamed, targets, places, named, okPlace, Cleared}
+use Rattle.recovery.specs.Changes.{in-force-only}
 
 -- the flash after some operations, and after any failure among them
 pub some-done : (g : Build) (ops : List Op) (b : ℕ) (f : Flash) → During g ops f (run g b ops f)

@@ -19,7 +19,7 @@ use Rattle.plan.specs.Lists.{mark, okOps, progress, magicOps, linesOneTwo, line
 use Rattle.plan.specs.Decision.{listOf}
 use Rattle.recovery.specs.All.{All, none, one, all-map}
 use Rattle.recovery.specs.Places.{Geo, unit-back, ok-unit, done-unit}
-use Rattle.recovery.specs.Changes.{Place, place, trailerOf, trailers, targets, places, named}
+use Rattle.recovery.specs.Named.{Place, place, trailerOf, trailers, targets, places, named}
 
 -- an operation of the list begins in that sector
 pub data Worked (g : Build) (p : Place) : List Op → Type 0 where
