@@ -16,6 +16,7 @@ import pathlib
 import re
 import sys
 import tempfile
+import textwrap
 
 sys.dont_write_bytecode = True
 from source import Source, Specs, Tree, Unread, names  # noqa: E402
@@ -133,19 +134,16 @@ def faults_of(docs, tables, library):
 
 
 def rows_of(docs, title, files):
-    """A table as it should be: its rows in their present order, then the files that are new."""
-    table = docs.table(title)
-    order = [file for file in table if file in files] + [file for file in files if file not in table]
-    return "\n".join([HEADING] + [f"| `{file}` | {table.get(file, ('', 0))[0]} | {files[file]} |" for file in order])
+    """A table as it should be: its rows in their present order, then the files that are new, with what their first line says."""
+    subjects = {file: subject for file, (subject, _) in docs.table(title).items() if file in files}
+    for file in files:
+        first = re.match(r"(?:--|//) (.+?)(?:: |\. |\.?$)", (docs.root / "crates" / file).read_text(), re.M)
+        subjects.setdefault(file, first[1] if first else "")
+    return "\n".join([HEADING] + [f"| `{file}` | {subject} | {files[file]} |" for file, subject in subjects.items()])
 
 
 def library_line(library):
-    line, lines = OF_LIBRARY, []
-    for name in sorted(library):
-        if len(line) + len(name) > 115:
-            lines, line = lines + [line], ""
-        line += f" `{name}`" if line else f"`{name}`"
-    return "\n".join([*lines, line])
+    return textwrap.fill(" ".join([OF_LIBRARY, *(f"`{name}`" for name in sorted(library))]), 118, break_on_hyphens=False)
 
 
 def rewritten(docs, tables, library):
