@@ -25,13 +25,13 @@ header records size body high =
     60 ∷ 184 ∷ 243 ∷ 150 ∷ records ∷ 0 ∷ 0 ∷ 0 ∷ size ∷ 0 ∷ 0 ∷ 0 ∷ body ∷ high ∷ 0 ∷ 0 ∷ replicate 16 0
 
 -- a digest record of so many bytes, and an empty record of type 2
-digest : ℕ → List ℕ
+unfoldable pub digest : ℕ → List ℕ
 digest size = 1 ∷ 0 ∷ size ∷ 0 ∷ replicate size 170
 
 empty : List ℕ
 empty = 2 ∷ 0 ∷ 0 ∷ 0 ∷ []
 
-body : ℕ → List ℕ
+unfoldable pub body : ℕ → List ℕ
 body size = replicate size 85
 
 pub edges : List Row

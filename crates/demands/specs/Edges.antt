@@ -3,7 +3,7 @@ use mathlib.Core.Path.{_≡_, refl, ap, _∙_}
 use mathlib.Core.List.{List, [], _∷_, _++_}
 use mathlib.Core.Bool.{Bool, true, false}
 use Prim.Native.Nat.{ℕ, min}
-use lib.ListN.{length, replicate}
+use lib.ListN.{length}
 use lib.Dec.{ltb}
 use Rattle.spans.specs.Bytes.{part, put, blank, same}
 use Rattle.spans.specs.Choice.{every, pick}
@@ -16,7 +16,7 @@ use Rattle.flash.specs.Operations.{Op, run, steps}
 use Rattle.trailer.specs.Trailer.{magicBytes, trailer, magicOf, markOf, isGood, noMagic, isUnset, hasValue, written, legal}
 use Rattle.causes.specs.Header.{headerMagic, recordsSize, headerSize, bodySize, coveredSize, imageSize}
 use Rattle.causes.specs.Check.{numberOf, sizes, head, oneDigest, filled, layoutOf, withSizes, structure, digestAt, check, accepted}
-use Rattle.causes.specs.Edges.{header}
+use Rattle.causes.specs.Edges.{header, digest}
 use Rattle.plan.specs.declared.Course.{Course}
 use Rattle.plan.specs.Lists.{writes, magicOps, okOps, linesOneTwo, linesThreeToSix, copies, moveOps, dataOps, exchange}
 use Rattle.plan.specs.Decision.{stepA, continue, stepB, stateC, asks, judged, decide, listOf, okUnset, inForce, doneOf, foundOf}
@@ -67,9 +67,6 @@ module _ (b : ℕ) {f : Flash} {course : Course} {p : Bool} (due : Due accepted 
 -- an image in slot 0, and nothing due
 booted : List ℕ → Flash
 booted image = record { in0 = put (blank 1024) 0 image; in1 = blank 1024; in2 = blank 1024 }
-
-digest : ℕ → List ℕ
-digest size = 1 ∷ 0 ∷ size ∷ 0 ∷ replicate size 170
 
 -- what it says: what was done, the count, the end, the offset, the refusal and the cause, with no marks found
 says : ℕ → ℕ → ℕ → ℕ → ℕ → ℕ → Numbers

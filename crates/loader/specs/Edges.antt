@@ -15,7 +15,7 @@ use Rattle.flash.specs.Operations.{attempt, eraseIn, writeIn, step, steps}
 use Rattle.trailer.specs.Trailer.{magicBytes, trailer, magicOf, markOf, isGood, noMagic, isUnset, hasValue, written, legal, markBytes}
 use Rattle.causes.specs.Header.{headerMagic, recordsSize, headerSize, bodySize, coveredSize, imageSize}
 use Rattle.causes.specs.Check.{sizes, head, withSizes, structure, digestAt, check, isAccepted, accepted}
-use Rattle.causes.specs.Edges.{header}
+use Rattle.causes.specs.Edges.{header, body, digest}
 use Rattle.plan.specs.Lists.{okOps, erases, clearOut}
 use Rattle.plan.specs.Decision.{stepA, continue, stepB, stateC, asks, judged, decide, listOf, okUnset, doneOf, foundOf}
 use Rattle.answers.specs.declared.numbers.Numbers.{Numbers}
@@ -55,7 +55,7 @@ edges =
     -- "Sizes summing to m·s pass, one more is cause 2." In slot 0: a boot at its header size, or refusal 3; in slot 1: cleared, not begun
     ∷ row (small 4000 (slot (header 36 32 188 1) [] [] []) (blank 1024)) (says 0 0 32 0)
     ∷ row (small 4000 (slot (header 36 32 189 1) [] [] []) (blank 1024)) (says 0 2 0 3)
-    ∷ row (small 0 (blank 1024) (slot (header 36 32 189 1) [] [] magicBytes)) (says 5 1 0 0)
+    ∷ row (small 0 (blank 1024) (slot (header 36 32 189 1 ++ body 445 ++ digest 32) [] [] magicBytes)) (says 5 1 0 0)
     -- "Marks 01, ff in sector n − 1 with slot 0 Good and copy done Unset: refusal 2."
     ∷ row (small 4000 (put (slot [] [] [] magicBytes) 986 (1 ∷ [])) (blank 1024)) (says 0 2 0 2)
     -- "State III with two bytes of magic in slot 1: none."
@@ -63,7 +63,7 @@ edges =
     ∷ []
 
 pub edges-hold : Holds edges
-unfolding edges flash answer says ofErased slot small header part put blank same every little field asked fits valid threeMoves allMoves base
+unfolding edges flash answer says ofErased slot small header body digest part put blank same every little field asked fits valid threeMoves allMoves base
     attempt eraseIn writeIn step steps magicBytes trailer magicOf markOf isGood noMagic isUnset hasValue written legal markBytes headerMagic recordsSize
     headerSize bodySize coveredSize imageSize sizes head withSizes structure digestAt check isAccepted accepted okOps erases clearOut stepA
     continue stepB stateC asks judged decide listOf okUnset doneOf foundOf refusalNumber refusalCause doneNumber endNumber offsetNumber
