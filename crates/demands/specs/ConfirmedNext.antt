@@ -26,7 +26,8 @@ use Rattle.answers.specs.declared.Marked.{Marked}
 use Rattle.marking.specs.Marking.{confirmable, confirming}
 use Rattle.demands.specs.Promise.{Marks}
 use Rattle.demands.specs.MarkLists.{run-ok}
-use Rattle.demands.specs.Marking.{whole-areas, Allowed, confirming-needs, confirming-ends, confirming-allowed}
+use Rattle.demands.specs.Marking.{whole-areas, confirming-needs, confirming-ends}
+use Rattle.demands.specs.Allowed.{Allowed, confirming-allowed}
 use Rattle.demands.specs.MarkedNext.{free-scratch}
 
 -- ---- after confirming: what was a revert is none, and all else is as before

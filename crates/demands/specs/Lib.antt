@@ -12,6 +12,7 @@ pub mod Starred
 pub mod LeastAllowance
 pub mod MarkLists
 pub mod Marking
+pub mod Allowed
 pub mod MarkedNext
 pub mod ConfirmedNext
 pub mod Touched

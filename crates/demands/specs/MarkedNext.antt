@@ -36,7 +36,8 @@ use Rattle.marking.specs.Marking.{unmarked, marking}
 use Rattle.marking.specs.Standing.{standingOf}
 use Rattle.demands.specs.Promise.{Marks}
 use Rattle.demands.specs.MarkLists.{placeIn, okPut, magicPut, run-marking}
-use Rattle.demands.specs.Marking.{whole-areas, Allowed, marking-ends, marking-allowed}
+use Rattle.demands.specs.Marking.{whole-areas, marking-ends}
+use Rattle.demands.specs.Allowed.{Allowed, marking-allowed}
 
 -- ---- where no exchange is under way, C decides, whatever slot 1 says
 

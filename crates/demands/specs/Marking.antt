@@ -1,6 +1,6 @@
 -- MARKING AND CONFIRMING, over what the functions promise, from any areas and any geometry: what they write is what document 01 says, byte
 -- for byte, with its count; every refusal leaves the areas as before, with count 0, and 8 is none of them.
-use mathlib.Core.Path.{_≡_, refl, sym, ap, subst, _∙_}
+use mathlib.Core.Path.{_≡_, refl, sym, subst, _∙_}
 use mathlib.Core.List.{List, [], _∷_, _++_}
 use mathlib.Core.Bool.{Bool, true, false, _||_}
 use Prim.Native.Nat.{ℕ, _+_, _-_, _/_}
@@ -10,18 +10,16 @@ use lib.Dec.{eqb}
 use borrow.Author.Tests.{le-ltb}
 use Rattle.spans.specs.Choice.{pick, both}
 use Rattle.flash.specs.declared.Geometry.{Geometry}
-use Rattle.flash.specs.Build.{slot0, slot1, Build, Flash, valid}
+use Rattle.flash.specs.Build.{slot0, slot1, Flash}
 use Rattle.flash.specs.Base.{base, build}
 use Rattle.flash.specs.Operations.{Op, runAll}
 use Rattle.trailer.specs.Trailer.{trailer, okAt, copyDoneAt, magicOf, isGood, noMagic, markOf, isUnset, hasValue}
-use Rattle.plan.specs.Asked.{flashOf, askedBy}
+use Rattle.plan.specs.Asked.{flashOf}
 use Rattle.plan.specs.Lists.{okOps, magicOps}
 use Rattle.plan.specs.Lengths.{one-if, length-ok}
 use Rattle.recovery.specs.Cuts.{run-all}
 use Rattle.recovery.specs.Places.{Geo}
 use Rattle.recovery.specs.Reading.{unset-blank}
-use Rattle.recovery.specs.Named.{Place, Only, trailerOf}
-use Rattle.recovery.specs.Statement.{sectorOf}
 use Rattle.recovery.specs.Validity.{of-valid}
 use Rattle.recovery.specs.Fresh.{Fresh, fresh-ok}
 use Rattle.recovery.specs.Bridge.{fresh-steps}
@@ -30,12 +28,10 @@ use Rattle.answers.specs.declared.Ending.{Ending}
 use Rattle.answers.specs.declared.Marked.{Marked}
 use Rattle.answers.specs.Numbers.{refusalNumber}
 use Rattle.marking.specs.Marking.{MarkResult, refusedMark, endingOf, wroteAll, unlessRefused, unmarked, markUnlessMarked, marking, confirmable, confirmIfNeeded, confirming}
-use Rattle.marking.specs.declared.taken.Standing.{Standing}
-use Rattle.marking.specs.Standing.{standingOf}
 use Rattle.marking.specs.MarkLaws.{length-marking}
 use Rattle.marking.specs.Counts.{by-refusals}
 use Rattle.demands.specs.Promise.{Marks}
-use Rattle.demands.specs.MarkLists.{okPut, magicPut, fresh-marking, run-ok, run-marking, ok-only, marks-only}
+use Rattle.demands.specs.MarkLists.{okPut, magicPut, fresh-marking, run-ok, run-marking}
 
 unfoldable pub oneOf : List ℕ → ℕ → Bool
 oneOf [] n = false
@@ -55,7 +51,7 @@ whole-areas (refuses r n e c h) w = absurd (let z : _≡_ {A = ℕ} 0 1 = cc in 
 
 -- ---- a list whose units are erased is written whole
 
-fresh-wrote : (g : Geometry) (ops : List Op) (f : Flash) → Fresh (build g) ops f
+pub fresh-wrote : (g : Geometry) (ops : List Op) (f : Flash) → Fresh (build g) ops f
     → wroteAll g ops f ≡ record { answer = record { ending = Ending.Written; count = length ops }; flash = runAll (build g) ops f }
 unfolding wroteAll endingOf
 fresh-wrote g ops f h =
@@ -94,21 +90,28 @@ promised-ends what needs count f whole {g} otherwise q e h =
 
 -- ---- marking: 16/w operations for test, one more for permanent; slot 1 alone changes, in it image ok (if permanent) and magic
 
+-- "It needs slot 1's image ok and magic Unset": so the units that it writes are erased
+pub unmarked-fresh : (p : Bool) (g : Geometry) → Geo (build g) → (f : Flash) → unmarked g f ≡ true
+    → Fresh (build g) (okOps (build g) slot1 p ++ magicOps (build g) slot1) f
+unfolding unmarked
+unmarked-fresh p g geo f u =
+    let t : List ℕ = trailer (build g) slot1 f in
+    let b = both (isUnset (markOf (build g) t (okAt (build g)))) (noMagic (magicOf (build g) t)) u in
+    fresh-marking geo slot1 p f (b .0) (b .1)
+
 -- "Marking: 1, 2, 6, 5."
 pub marking-ends : (p : Bool) {g : Geometry} {f f' : Flash} {a : Marked} → Marks (marking p) g f a f'
     → MarkEnds (1 ∷ 2 ∷ 6 ∷ 5 ∷ []) (16 / g .unit + one-if p) f
     (flashOf (f .in0) (magicPut (build g) slot1 (okPut (build g) slot1 p (f .in1))) (f .in2)) a f'
-unfolding marking markUnlessMarked unmarked oneOf refusalNumber base
+unfolding marking markUnlessMarked oneOf refusalNumber base
 marking-ends p {g} {f} q =
-    let t : List ℕ = trailer (build g) slot1 f in
     let ops : List Op = okOps (build g) slot1 p ++ magicOps (build g) slot1 in
     let whole : Flash = flashOf (f .in0) (magicPut (build g) slot1 (okPut (build g) slot1 p (f .in1))) (f .in2) in
     let count : ℕ = 16 / g .unit + one-if p in
     promised-ends (marking p) 5 count f whole (markUnlessMarked p g f) q refl (λ geo.
     needed-ends (1 ∷ 2 ∷ 6 ∷ 5 ∷ []) count f whole Refusal.Marks g ops (unmarked g f) refl (omega (arith, length-marking g p))
     (run-marking geo slot1 p f)
-    (λ u. let b = both (isUnset (markOf (build g) t (okAt (build g)))) (noMagic (magicOf (build g) t)) u in
-    fresh-marking geo slot1 p f (b .0) (b .1)))
+    (unmarked-fresh p g geo f))
 
 -- ---- confirming: one operation; slot 0 alone changes, in it image ok
 
@@ -121,69 +124,18 @@ confirming-needs g f c =
     let b = both (isGood (magicOf (build g) t)) _ c in
     (b .0, both (hasValue 1 (markOf (build g) t (copyDoneAt (build g)))) _ (b .1))
 
+pub confirmable-fresh : (g : Geometry) → Geo (build g) → (f : Flash) → confirmable g f ≡ true
+    → Fresh (build g) (okOps (build g) slot0 true) f
+confirmable-fresh g geo f c =
+    fresh-ok geo slot0 true f (λ e. unset-blank (build g) (trailer (build g) slot0 f) (okAt (build g)) (confirming-needs g f c .1 .1))
+
 -- "Confirming: 1, 2, 6, 7."
 pub confirming-ends : {g : Geometry} {f f' : Flash} {a : Marked} → Marks confirming g f a f'
     → MarkEnds (1 ∷ 2 ∷ 6 ∷ 7 ∷ []) 1 f (flashOf (okPut (build g) slot0 true (f .in0)) (f .in1) (f .in2)) a f'
 unfolding confirming confirmIfNeeded oneOf refusalNumber
 confirming-ends {g} {f} q =
-    let t : List ℕ = trailer (build g) slot0 f in
     let whole : Flash = flashOf (okPut (build g) slot0 true (f .in0)) (f .in1) (f .in2) in
     promised-ends confirming 7 1 f whole (confirmIfNeeded g f) q refl (λ geo.
     needed-ends (1 ∷ 2 ∷ 6 ∷ 7 ∷ []) 1 f whole Refusal.Needs g (okOps (build g) slot0 true) (confirmable g f) refl
     (length-ok (build g) slot0 true) (run-ok geo slot0 true f)
-    (λ c. fresh-ok geo slot0 true f (λ e. unset-blank (build g) t (okAt (build g)) (confirming-needs g f c .1 .1))))
-
--- ---- all is written exactly where document 01 allows it
-
-pub record Allowed (g : Geometry) (f : Flash) (needs : Bool) : Type 0 where
-  pub fits : valid (build g) f ≡ true
-  pub free : standingOf (askedBy g f) ≡ Standing.Free
-  pub met : needs ≡ true
-
-written-allowed : (g : Geometry) (f : Flash) (needs : Bool) (ops : List Op) (r : Refusal)
-    → unlessRefused g f (pick needs (wroteAll g ops f) (refusedMark r f)) .answer .ending ≡ Ending.Written → Allowed g f needs
-unfolding refusedMark
-written-allowed g f needs ops r =
-    by-refusals (λ m. m .answer .ending ≡ Ending.Written → Allowed g f needs) g f (pick needs (wroteAll g ops f) (refusedMark r f))
-    (λ h. absurd (let z : _≡_ {A = ℕ} 0 1 = cc in omega arith)) (λ h. absurd (let z : _≡_ {A = ℕ} 0 1 = cc in omega arith))
-    (λ h. absurd (let z : _≡_ {A = ℕ} 0 1 = cc in omega arith)) (λ v s. go needs refl v s)
-  where
-    go : (b : Bool) → needs ≡ b → valid (build g) f ≡ true → standingOf (askedBy g f) ≡ Standing.Free
-        → pick b (wroteAll g ops f) (refusedMark r f) .answer .ending ≡ Ending.Written → Allowed g f needs
-    go true e v s h = record { fits = v; free = s; met = e }
-    go false e v s h = absurd (let z : _≡_ {A = ℕ} 0 1 = cc in omega arith)
-
-pub marking-allowed : (p : Bool) {g : Geometry} {f f' : Flash} {a : Marked} → Marks (marking p) g f a f' → a .ending ≡ Ending.Written
-    → Allowed g f (unmarked g f)
-unfolding marking markUnlessMarked
-marking-allowed p {g} {f} q h =
-    written-allowed g f (unmarked g f) (okOps (build g) slot1 p ++ magicOps (build g) slot1) Refusal.Marks
-    (ap (λ (r : MarkResult). r .answer .ending) (sym (q .promised)) ∙ h)
-
-pub confirming-allowed : {g : Geometry} {f f' : Flash} {a : Marked} → Marks confirming g f a f' → a .ending ≡ Ending.Written
-    → Allowed g f (confirmable g f)
-unfolding confirming confirmIfNeeded
-confirming-allowed {g} {f} q h =
-    written-allowed g f (confirmable g f) (okOps (build g) slot0 true) Refusal.Needs
-    (ap (λ (r : MarkResult). r .answer .ending) (sym (q .promised)) ∙ h)
-
--- ---- only slot 1's trailer sector, only slot 0's, is not as before, however it ends
-
-ends-only : {numbers : List ℕ} {count : ℕ} {f whole f' : Flash} {a : Marked} (g : Build) (places : List Place)
-    → MarkEnds numbers count f whole a f' → (a .ending ≡ Ending.Written → Only g places f whole) → Only g places f f'
-ends-only g places (writes e c h) o b k n = ap (λ (x : Flash). sectorOf g x b k) h ∙ o e b k n
-ends-only g places (refuses r m e c h) o b k n = ap (λ (x : Flash). sectorOf g x b k) h
-
-pub marking-only : (p : Bool) {g : Geometry} {f f' : Flash} {a : Marked} → Marks (marking p) g f a f'
-    → Only (build g) (trailerOf (build g) slot1 ∷ []) f f'
-marking-only p {g} {f} q =
-    ends-only (build g) (trailerOf (build g) slot1 ∷ []) (marking-ends p q) (λ w.
-    let geo : Geo (build g) = of-valid (build g) f (marking-allowed p q w .fits) .geo in
-    rw (← run-marking geo slot1 p f) (marks-only geo slot1 p f))
-
-pub confirming-only : {g : Geometry} {f f' : Flash} {a : Marked} → Marks confirming g f a f'
-    → Only (build g) (trailerOf (build g) slot0 ∷ []) f f'
-confirming-only {g} {f} q =
-    ends-only (build g) (trailerOf (build g) slot0 ∷ []) (confirming-ends q) (λ w.
-    let geo : Geo (build g) = of-valid (build g) f (confirming-allowed q w .fits) .geo in
-    rw (← run-ok geo slot0 true f) (ok-only geo slot0 true f))
+    (confirmable-fresh g geo f))
