@@ -13,7 +13,7 @@ use Rattle.flash.specs.Operations.{Op}
 use Rattle.plan.specs.Asked.{askedBy}
 use Rattle.plan.specs.Lists.{okOps, magicOps}
 use Rattle.recovery.specs.Places.{Geo}
-use Rattle.recovery.specs.Changes.{Place, Only, trailerOf}
+use Rattle.recovery.specs.Named.{Place, Only, trailerOf}
 use Rattle.recovery.specs.Statement.{sectorOf}
 use Rattle.recovery.specs.Validity.{of-valid}
 use Rattle.recovery.specs.Fresh.{Fresh}
