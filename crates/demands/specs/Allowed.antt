@@ -26,14 +26,9 @@ use Rattle.marking.specs.Standing.{standingOf}
 use Rattle.marking.specs.MarkLaws.{stands-free}
 use Rattle.marking.specs.Counts.{by-refusals}
 use Rattle.demands.specs.Promise.{Marks}
+use Rattle.demands.specs.MarkStatement.{MarkEnds, writes, refuses, Allowed}
 use Rattle.demands.specs.MarkLists.{run-ok, run-marking, ok-only, marks-only}
-use Rattle.demands.specs.Marking.{MarkEnds, writes, refuses, fresh-wrote, unmarked-fresh, marking-ends, confirmable-fresh, confirming-ends}
-
--- what document 01 asks before anything is written
-pub record Allowed (g : Geometry) (f : Flash) (needs : Bool) : Type 0 where
-  pub fits : valid (build g) f ≡ true
-  pub free : standingOf (askedBy g f) ≡ Standing.Free
-  pub met : needs ≡ true
+use Rattle.demands.specs.Marking.{fresh-wrote, unmarked-fresh, marking-ends, confirmable-fresh, confirming-ends}
 
 written-allowed : (g : Geometry) (f : Flash) (needs : Bool) (ops : List Op) (r : Refusal)
     → unlessRefused g f (pick needs (wroteAll g ops f) (refusedMark r f)) .answer .ending ≡ Ending.Written → Allowed g f needs

@@ -24,7 +24,8 @@ use Rattle.answers.specs.declared.Refusal.{Refusal}
 use Rattle.answers.specs.declared.Outcome.{Outcome}
 use Rattle.loader.specs.PowerUp.{dataOf, refused, fullStart}
 use Rattle.demands.specs.Promise.{met}
-use Rattle.demands.specs.Demand1.{Ends, demand-1, damage-untouched, misfit-untouched}
+use Rattle.demands.specs.Statement.{Ends}
+use Rattle.demands.specs.Demand1.{demand-1, damage-untouched, misfit-untouched}
 use Rattle.demands.specs.Demand2.{exchange-of-image, clear-out-of-none}
 use Rattle.demands.specs.Demand3.{demand-3}
 use Rattle.demands.specs.Boots.{boots-what-was-checked}

@@ -15,15 +15,16 @@ use Rattle.flash.specs.Base.{base, build}
 use Rattle.flash.specs.Operations.{Op, run, start, steps}
 use Rattle.causes.specs.Check.{accepted}
 use Rattle.plan.specs.declared.Course.{Course}
-use Rattle.plan.specs.Decision.{decide, listOf, okUnset, inForce, doneOf, foundOf}
+use Rattle.plan.specs.Decision.{decide, listOf, okUnset, inForce}
 use Rattle.recovery.specs.Statement.{Sound}
 use Rattle.recovery.specs.Validity.{of-valid}
 use Rattle.recovery.specs.BaseMoves.{base-sound}
 use Rattle.recovery.specs.Bridge as bridge
 use Rattle.answers.specs.declared.Refusal.{Refusal}
 use Rattle.answers.specs.declared.Outcome.{Outcome}
-use Rattle.loader.specs.PowerUp.{Result, bootOf, ended, carried, answered, refused, isDamage, onCourse, fullStart}
+use Rattle.loader.specs.PowerUp.{bootOf, ended, carried, answered, refused, isDamage, onCourse, fullStart}
 use Rattle.loader.specs.Results.{undamaged}
+use Rattle.demands.specs.Statement.{asListed}
 
 pub sound : (g : Geometry) (f : Flash) → valid (build g) f ≡ true → Sound (build g)
 unfolding base
@@ -49,20 +50,6 @@ by-state checked g b f course v d h =
     ap (λ (t : Bool). pick t (onCourse checked g b f (decide accepted (build g) f)) (refused Refusal.Geometry f)) v
     ∙ ap (onCourse checked g b f) d ∙ undamaged checked g b f course h
     ∙ ap (λ (l : List Op). answered checked g b course (steps (build g) l (start b f))) (sym (listed g f course v d))
-
--- the answer, and the areas, of a power-up whose geometry is taken and whose marks are sound
-unfoldable pub asListed : Bool → Geometry → ℕ → Flash → Course → Result
-asListed checked g b f course =
-    let ops = inForce accepted (build g) f in
-    record {
-      answer = record {
-        done = doneOf course;
-        found = foundOf course;
-        count = min b (length ops);
-        outcome = pick (ltb b (length ops)) Outcome.Stopped (bootOf checked g (run (build g) b ops f));
-      };
-      flash = run (build g) b ops f;
-    }
 
 pub as-listed : (checked : Bool) (g : Geometry) (b : ℕ) (f : Flash) (course : Course) → valid (build g) f ≡ true
     → decide accepted (build g) f ≡ course → isDamage course ≡ false → fullStart checked g b f ≡ asListed checked g b f course

@@ -32,7 +32,8 @@ use Rattle.answers.specs.declared.Outcome.{Outcome}
 use Rattle.loader.specs.PowerUp.{Result, judgedStart, started, dataOf, bootOf, refused, isDamage, fullStart}
 use Rattle.loader.specs.Results.{damaged}
 use Rattle.demands.specs.Promise.{Start}
-use Rattle.demands.specs.AsListed.{asListed, as-listed}
+use Rattle.demands.specs.Statement.{asListed, MeetsLow, MeetsHigh, ToD}
+use Rattle.demands.specs.AsListed.{as-listed}
 
 -- What D comes to, for slot 0's data bytes: "3 | slot 0, at D, would meet cause 1 or 2", "4 | full start, checking chosen: cause 3, 4 or 5 in
 -- slot 0; the cause is given"; else "the answer is its header size as an offset".
@@ -42,20 +43,6 @@ pub data AtD (checked : Bool) (xs : List ℕ) : Outcome → Type 0 where
       (Outcome.Refused (Refusal.Image c))
   not-checked : (c : Cause) → check xs ≡ Rejected c → 3 ≤ numberOf c → checked ≡ false → AtD checked xs (Outcome.Boot (headerSize xs))
   accepts : check xs ≡ Accepted → AtD checked xs (Outcome.Boot (headerSize xs))
-
--- the image check meets cause 1 or 2
-pub record MeetsLow (xs : List ℕ) : Type 0 where
-  pub cause : Cause
-  pub met : check xs ≡ Rejected cause
-  pub least : 1 ≤ numberOf cause
-  pub most : numberOf cause ≤ 2
-
--- the cause that is given with refusal 4
-pub record MeetsHigh (checked : Bool) (xs : List ℕ) (c : Cause) : Type 0 where
-  pub chosen : checked ≡ true
-  pub met : check xs ≡ Rejected c
-  pub least : 3 ≤ numberOf c
-  pub most : numberOf c ≤ 5
 
 numbers : (c : Cause) → (1 ≤ numberOf c) × (numberOf c ≤ 5)
 unfolding numberOf
@@ -142,12 +129,6 @@ module _ {checked : Bool} {xs : List ℕ} where
   by-4 (accepts e) c k = let z : _≡_ {A = ℕ} 0 1 = cc in absurd (omega arith)
 
 -- ---- over what the functions promise
-
--- the start came to D: not refused by 1 or 2, and not stopped
-pub record ToD (a : Answer) : Type 0 where
-  pub taken : a .outcome ≡ Outcome.Refused Refusal.Geometry → ⊥
-  pub undamaged : a .outcome ≡ Outcome.Refused Refusal.Damage → ⊥
-  pub allowed : a .outcome ≡ Outcome.Stopped → ⊥
 
 refused-at-D : {a : Answer} (r : Refusal) → a .outcome ≡ Outcome.Refused r → (r ≡ Refusal.Geometry → ⊥) → (r ≡ Refusal.Damage → ⊥) → ToD a
 refused-at-D r e n m = record {

@@ -25,22 +25,13 @@ use Rattle.answers.specs.declared.Ending.{Ending}
 use Rattle.answers.specs.declared.Marked.{Marked}
 use Rattle.marking.specs.Marking.{confirmable, confirming}
 use Rattle.demands.specs.Promise.{Marks}
+use Rattle.demands.specs.MarkStatement.{Allowed, unreverted}
 use Rattle.demands.specs.MarkLists.{run-ok}
 use Rattle.demands.specs.Marking.{whole-areas, confirming-needs, confirming-ends}
-use Rattle.demands.specs.Allowed.{Allowed, confirming-allowed}
+use Rattle.demands.specs.Allowed.{confirming-allowed}
 use Rattle.demands.specs.MarkedNext.{free-scratch}
 
 -- ---- after confirming: what was a revert is none, and all else is as before
-
-abbrev pub unreverted : Course → Course
-unreverted Damage = Damage
-unreverted (FromLineThree p) = FromLineThree p
-unreverted (Resume c) = Resume c
-unreverted Test = Test
-unreverted Permanent = Permanent
-unreverted Revert = Nothing
-unreverted Clear = Clear
-unreverted Nothing = Nothing
 
 -- copy done 01: the marks are not read
 done-not-B : (g : Build) (t0 : List ℕ) → hasValue 1 (markOf g t0 (copyDoneAt g)) ≡ true

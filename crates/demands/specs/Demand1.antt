@@ -26,12 +26,8 @@ use Rattle.answers.specs.Numbers.{refusalNumber}
 use Rattle.loader.specs.PowerUp.{Result, judgedStart, started, dataOf, bootOf, refused, isDamage, onCourse, fullStart}
 use Rattle.loader.specs.Results.{damaged}
 use Rattle.demands.specs.Promise.{Start}
-use Rattle.demands.specs.AsListed.{asListed, as-listed}
-
-pub data Ends : Outcome → Type 0 where
-  boots : (offset : ℕ) → Ends (Outcome.Boot offset)
-  stops : Ends Outcome.Stopped
-  refuses : (r : Refusal) → 1 ≤ refusalNumber r → refusalNumber r ≤ 4 → Ends (Outcome.Refused r)
+use Rattle.demands.specs.Statement.{Ends, boots, stops, refuses, asListed}
+use Rattle.demands.specs.AsListed.{as-listed}
 
 booted : (checked : Bool) (h : Header) (v : Verdict) → Ends (started checked h v)
 unfolding started judgedStart refusalNumber

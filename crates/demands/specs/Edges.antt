@@ -27,7 +27,8 @@ use Rattle.answers.specs.declared.numbers.Numbers.{Numbers}
 use Rattle.answers.specs.Numbers.{refusalNumber, refusalCause, doneNumber, endNumber, offsetNumber, outcomeRefusal, outcomeCause, withOutcome, answerNumbers}
 use Rattle.loader.specs.PowerUp.{Result, judgedStart, started, dataOf, bootOf, ended, carried, answered, refused, isDamage, onCourse, fullStart}
 use Rattle.demands.specs.Promise.{met}
-use Rattle.demands.specs.AsListed.{asListed, as-listed}
+use Rattle.demands.specs.Statement.{asListed}
+use Rattle.demands.specs.AsListed.{as-listed}
 use Rattle.demands.specs.Instances.{small, for-test, for-good, on-trial, test-due, permanent-due, revert-due, in-force}
 use Rattle.demands.specs.Applied.{boots-test, boots-permanent, boots-reverted}
 

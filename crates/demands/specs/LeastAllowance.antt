@@ -26,7 +26,8 @@ use Rattle.recovery.specs.Starts.{FinishedBy, at-last, once-more}
 use Rattle.recovery.specs.LeastAllowance as recovery
 use Rattle.answers.specs.declared.Outcome.{Outcome}
 use Rattle.loader.specs.PowerUp.{Result, bootOf, isDamage, fullStart}
-use Rattle.demands.specs.AsListed.{asListed, as-listed}
+use Rattle.demands.specs.Statement.{asListed}
+use Rattle.demands.specs.AsListed.{as-listed}
 
 -- Starts with these allowances, one after the other, from f: all answer Stopped but the last, which answers `outcome` and leaves `end`.
 pub data Starts (checked : Bool) (g : Geometry) (outcome : Outcome) (end : Flash) : List ℕ → Flash → Type 0 where

@@ -1,4 +1,6 @@
 pub mod Promise
+pub mod Statement
+pub mod MarkStatement
 pub mod AsListed
 pub mod Causes
 pub mod Demand1

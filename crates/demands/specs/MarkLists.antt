@@ -4,12 +4,10 @@ use mathlib.Core.Path.{_≡_, refl, sym, ap, _∙_}
 use mathlib.Core.List.{List, [], _∷_, _++_}
 use mathlib.Core.Bool.{Bool, true, false, false≢true}
 use Prim.Native.Nat.{ℕ, _/_}
-use Rattle.spans.specs.Bytes.{part, put, blank, same}
+use Rattle.spans.specs.Bytes.{part, blank, same}
 use Rattle.spans.specs.Choice.{pick}
 use Rattle.spans.specs.Laws.{same-eq}
-use Rattle.flash.specs.declared.Offset.{Offset}
-use Rattle.flash.specs.Geometry.{startOf, after}
-use Rattle.flash.specs.Build.{Area, Build, geometry, Flash, area, with-area, trailerSector}
+use Rattle.flash.specs.Build.{Area, Build, Flash, area, with-area, trailerSector}
 use Rattle.flash.specs.Operations.{Op, store, apply, runAll}
 use Rattle.flash.specs.AreaLaws.{with-own, store-store}
 use Rattle.trailer.specs.declared.Magic.{Magic}
@@ -24,18 +22,7 @@ use Rattle.recovery.specs.Sectors.{sector-unwiped}
 use Rattle.recovery.specs.Named.{Only, trailerOf}
 use Rattle.recovery.specs.Begin.{trailer-ok}
 use Rattle.recovery.specs.Fresh.{Fresh, fresh-append, fresh-ok, fresh-magic, magic-behind-ok}
-
--- where an offset into the trailer sector of an area stands in the area
-abbrev pub placeIn : Build → Area → Offset → ℕ
-placeIn g a at = after (startOf (geometry g) (trailerSector g a)) at .0
-
--- the bytes of an area with image ok 01 in its trailer, if there is to be one; and with magic
-unfoldable pub okPut : Build → Area → Bool → List ℕ → List ℕ
-okPut g a true xs = put xs (placeIn g a (okAt g)) (markBytes g 1)
-okPut g a false xs = xs
-
-unfoldable pub magicPut : Build → Area → List ℕ → List ℕ
-magicPut g a xs = put xs (placeIn g a (magicAt g)) magicBytes
+use Rattle.demands.specs.MarkStatement.{placeIn, okPut, magicPut}
 
 -- magic that is read as Unset is erased
 no-magic-blank : (g : Build) (t : List ℕ) → noMagic (magicOf g t) ≡ true → part t (magicAt g .0) 16 ≡ blank 16

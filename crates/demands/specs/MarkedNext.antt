@@ -16,7 +16,7 @@ use Rattle.flash.specs.Operations.{runAll}
 use Rattle.trailer.specs.Trailer.{trailer, magicAt, okAt, copyDoneAt, magicBytes, magicOf, isGood, noMagic, markOf, markBytes, isUnset, hasValue, written, legal}
 use Rattle.causes.specs.Check.{accepted}
 use Rattle.plan.specs.declared.Course.{Course}
-use Rattle.plan.specs.declared.Course.the-variants.{Damage, Resume, Test, Permanent}
+use Rattle.plan.specs.declared.Course.the-variants.{Damage, Resume}
 use Rattle.plan.specs.Lists.{okOps, magicOps}
 use Rattle.plan.specs.Asked.{flashOf, askedBy}
 use Rattle.plan.specs.AskedBefore.{state-I, state-II, by-A}
@@ -35,9 +35,10 @@ use Rattle.marking.specs.declared.taken.Standing.{Standing}
 use Rattle.marking.specs.Marking.{unmarked, marking}
 use Rattle.marking.specs.Standing.{standingOf}
 use Rattle.demands.specs.Promise.{Marks}
-use Rattle.demands.specs.MarkLists.{placeIn, okPut, magicPut, run-marking}
+use Rattle.demands.specs.MarkStatement.{placeIn, okPut, magicPut, Allowed, markedFor}
+use Rattle.demands.specs.MarkLists.{run-marking}
 use Rattle.demands.specs.Marking.{whole-areas, marking-ends}
-use Rattle.demands.specs.Allowed.{Allowed, marking-allowed}
+use Rattle.demands.specs.Allowed.{marking-allowed}
 
 -- ---- where no exchange is under way, C decides, whatever slot 1 says
 
@@ -77,10 +78,6 @@ free-C g t0 t1 t1' t2 =
     go false true true false false h = absurd (let w : _≡_ {A = ℕ} 0 1 = cc in omega arith)
 
 -- ---- after marking: test, or permanent
-
--- the course that a mark asks for
-abbrev pub markedFor : Bool → Course
-markedFor p = pick p Permanent Test
 
 -- slot 1's trailer sector, where it was unmarked, has Good magic and the image ok that was chosen
 marked-state : {g : Build} → Geo g → (t0 t1 : List ℕ) → length t1 ≡ g .sector → isUnset (markOf g t1 (okAt g)) ≡ true → (p : Bool)

@@ -2,11 +2,10 @@
 -- for byte, with its count; every refusal leaves the areas as before, with count 0, and 8 is none of them.
 use mathlib.Core.Path.{_≡_, refl, sym, subst, _∙_}
 use mathlib.Core.List.{List, [], _∷_, _++_}
-use mathlib.Core.Bool.{Bool, true, false, _||_}
+use mathlib.Core.Bool.{Bool, true, false}
 use Prim.Native.Nat.{ℕ, _+_, _-_, _/_}
 use native.Mathlib.Omega.{arith}
 use lib.ListN.{length}
-use lib.Dec.{eqb}
 use borrow.Author.Tests.{le-ltb}
 use Rattle.spans.specs.Choice.{pick, both}
 use Rattle.flash.specs.declared.Geometry.{Geometry}
@@ -31,18 +30,8 @@ use Rattle.marking.specs.Marking.{MarkResult, refusedMark, endingOf, wroteAll, 
 use Rattle.marking.specs.MarkLaws.{length-marking}
 use Rattle.marking.specs.Counts.{by-refusals}
 use Rattle.demands.specs.Promise.{Marks}
-use Rattle.demands.specs.MarkLists.{okPut, magicPut, fresh-marking, run-ok, run-marking}
-
-unfoldable pub oneOf : List ℕ → ℕ → Bool
-oneOf [] n = false
-oneOf (x ∷ xs) n = eqb n x || oneOf xs n
-
--- From the areas f: all is written, `count` operations, and the areas are `whole`; or the answer is a refusal with one of the `numbers`,
--- count 0, and the areas are as before.
-pub data MarkEnds (numbers : List ℕ) (count : ℕ) (f whole : Flash) (a : Marked) (f' : Flash) : Type 0 where
-  writes : a .ending ≡ Ending.Written → a .count ≡ count → f' ≡ whole → MarkEnds numbers count f whole a f'
-  refuses : (r : Refusal) → oneOf numbers (refusalNumber r) ≡ true → a .ending ≡ Ending.Refused r → a .count ≡ 0 → f' ≡ f
-      → MarkEnds numbers count f whole a f'
+use Rattle.demands.specs.MarkStatement.{okPut, magicPut, oneOf, MarkEnds, writes, refuses}
+use Rattle.demands.specs.MarkLists.{fresh-marking, run-ok, run-marking}
 
 pub whole-areas : {numbers : List ℕ} {count : ℕ} {f whole f' : Flash} {a : Marked} → MarkEnds numbers count f whole a f'
     → a .ending ≡ Ending.Written → f' ≡ whole

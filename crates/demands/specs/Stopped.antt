@@ -24,7 +24,8 @@ use Rattle.answers.specs.declared.Outcome.{Outcome}
 use Rattle.loader.specs.PowerUp.{Result, judgedStart, started, dataOf, bootOf, refused, isDamage, fullStart}
 use Rattle.loader.specs.Results.{damaged}
 use Rattle.demands.specs.Promise.{Start}
-use Rattle.demands.specs.AsListed.{asListed, as-listed}
+use Rattle.demands.specs.Statement.{asListed}
+use Rattle.demands.specs.AsListed.{as-listed}
 use Rattle.demands.specs.Touched.{first-operations}
 
 -- slot 0, once it is looked at, is booted or refused

@@ -25,7 +25,8 @@ use Rattle.answers.specs.declared.Answer.{Answer}
 use Rattle.loader.specs.PowerUp.{Result, refused, isDamage, fullStart}
 use Rattle.loader.specs.Results.{damaged}
 use Rattle.demands.specs.Promise.{Start}
-use Rattle.demands.specs.AsListed.{sound, asListed, as-listed}
+use Rattle.demands.specs.Statement.{asListed}
+use Rattle.demands.specs.AsListed.{sound, as-listed}
 use Rattle.demands.specs.Demand1.{misfit-untouched}
 use Rattle.demands.specs.Demand3.{areas}
 
