@@ -1,5 +1,5 @@
 /* Carries out the script on standard input, whose head says what its commands mean, on the archive, and prints what the script asks for. The
- * areas are lent as copies of exactly their length, so that a checked build sees a byte too far. */
+ * areas are lent as copies of exactly their length, so that valgrind, or a checked build, sees a byte too far. */
 #include <ctype.h>
 #include <inttypes.h>
 #include <stdio.h>

@@ -4,7 +4,7 @@
 use crate::compare::Outcome;
 use crate::flash::{Flash, Geometry, Operation};
 use crate::lent::Lent;
-use crate::loader::{Done, End};
+use crate::loader::{Answer, Done, End};
 use crate::random::Random;
 use crate::subject::raw;
 
@@ -108,7 +108,7 @@ pub fn every_cut(lent: &mut Lent, seed: u64, geometry: Geometry, kind: usize, ha
         let at = |problem: String| format!("cut {cut} of {geometry:?}, kind {kind}: {problem}");
         lent.load(&exchange.before, at_cut(seed, cut, Harm::Clean).below(4096));
         let got = lent.power_up(geometry, cut as u64);
-        if (got.done, got.found, got.count, got.end) != (exchange.done as u64, 0, cut as u64, 1) {
+        if got != raw(Answer { done: exchange.done, found: 0, count: cut as u64, end: End::Stopped }) {
             return Err(at(format!("stopped with {got:?}")));
         }
         if let Some(difference) = lent.difference(&rolling) {
