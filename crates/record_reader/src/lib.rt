@@ -1,9 +1,11 @@
 // The trailing records, one after the other, through a reader that borrows their area and remembers its place. Each function takes the
-// reader apart and leaves the work to the function that the walk goes by; whoever calls `first` needs to know nothing of a reader.
+// reader apart and leaves the work to the function that the walk goes by; whoever calls `record_at` needs to know nothing of a reader.
 ghost use mathlib.Core.Path.{_≡_};
 ghost use Rattle.records.specs.Records.{stepAt};
 use records::Step;
 use records::step_at;
+
+pub mod numbers;
 
 pub struct Reader<'a> {
     pub area: &'a [u8],
@@ -30,9 +32,9 @@ pub fn moved<'a>(r: Reader<'a>, at: usize) -> Reader<'a>
     Reader { area: r.area, at }
 }
 
-// The first record of an area.
-pub fn first(area: &[u8]) -> Step
-    ensures { λ r. ⌜ r ≡ stepAt (now (area .entry)) 0 ⌝ }
+// What stands at a place of an area, as a reader that is moved there tells it.
+pub fn record_at(area: &[u8], at: usize) -> Step
+    ensures { λ r. ⌜ r ≡ stepAt (now (area .entry)) at ⌝ }
 {
-    next(new(area))
+    next(moved(new(area), at))
 }
