@@ -1,16 +1,18 @@
 // The C boundary: include/scale.h has the C side. Each function passes its arguments on, and answers in document 01's numbers.
 ghost use mathlib.Core.Path.{_≡_};
 ghost use Rattle.causes.specs.Check.{causeOf, check};
+ghost use Rattle.records.specs.Records.{stepAt};
+ghost use Rattle.record_reader.specs.Numbers.{stepNumbers};
 ghost use Rattle.marking.specs.Marking.{marking, confirming};
 ghost use Rattle.loader.specs.PowerUp.{fullStart, powerUp};
 ghost use Rattle.plan.specs.Asked.{flashOf};
-ghost use Rattle.answers.specs.Numbers.{answerNumbers, markedNumbers};
-ghost use Rattle.scale.specs.Boundary.{geometryOf};
+ghost use Rattle.scale.specs.Boundary.{geometryOf, numbered, startNumbered, markNumbered};
 ghost use Rattle.fips.specs.Fips.{sha256};
 use answers::numbers;
 use answers::numbers::MarkNumbers;
 use answers::numbers::Numbers;
 use flash::Geometry;
+use record_reader::numbers::RecordNumbers;
 
 // SHA-256 of the message, into the digest.
 #[no_mangle]
@@ -28,6 +30,14 @@ pub extern "C" fn scale_check_image(image: &[u8]) -> u32
     image::cause_number(image)
 }
 
+// What stands at a place of the trailing records.
+#[no_mangle]
+pub extern "C" fn scale_record_at(records: &[u8], at: usize) -> RecordNumbers
+    ensures { λ r. ⌜ r ≡ stepNumbers (stepAt (now (records .entry)) at) ⌝ }
+{
+    record_reader::numbers::of_step(record_reader::record_at(records, at))
+}
+
 // The plain start.
 #[no_mangle]
 pub extern "C" fn scale_power_up(
@@ -39,11 +49,9 @@ pub extern "C" fn scale_power_up(
     scratch: &mut [u8],
     allowance: u64,
 ) -> Numbers
-    ensures { λ r. ⌜ r ≡ answerNumbers ((powerUp (geometryOf unit sector sectors) allowance
-        (flashOf (now (slot0 .entry)) (now (slot1 .entry)) (now (scratch .entry)))) .answer) ⌝ }
-    ensures { λ _. ⌜ flashOf (now (slot0 .exit)) (now (slot1 .exit)) (now (scratch .exit))
-        ≡ (powerUp (geometryOf unit sector sectors) allowance
-        (flashOf (now (slot0 .entry)) (now (slot1 .entry)) (now (scratch .entry)))) .flash ⌝ }
+    ensures { λ r. ⌜ numbered r (flashOf (now (slot0 .exit)) (now (slot1 .exit)) (now (scratch .exit)))
+        ≡ startNumbered (powerUp (geometryOf unit sector sectors) allowance
+        (flashOf (now (slot0 .entry)) (now (slot1 .entry)) (now (scratch .entry)))) ⌝ }
 {
     let g = Geometry {
         unit,
@@ -65,11 +73,9 @@ pub extern "C" fn scale_full_start(
     allowance: u64,
     checked: bool,
 ) -> Numbers
-    ensures { λ r. ⌜ r ≡ answerNumbers ((fullStart checked (geometryOf unit sector sectors) allowance
-        (flashOf (now (slot0 .entry)) (now (slot1 .entry)) (now (scratch .entry)))) .answer) ⌝ }
-    ensures { λ _. ⌜ flashOf (now (slot0 .exit)) (now (slot1 .exit)) (now (scratch .exit))
-        ≡ (fullStart checked (geometryOf unit sector sectors) allowance
-        (flashOf (now (slot0 .entry)) (now (slot1 .entry)) (now (scratch .entry)))) .flash ⌝ }
+    ensures { λ r. ⌜ numbered r (flashOf (now (slot0 .exit)) (now (slot1 .exit)) (now (scratch .exit)))
+        ≡ startNumbered (fullStart checked (geometryOf unit sector sectors) allowance
+        (flashOf (now (slot0 .entry)) (now (slot1 .entry)) (now (scratch .entry)))) ⌝ }
 {
     let g = Geometry {
         unit,
@@ -90,11 +96,9 @@ pub extern "C" fn scale_mark(
     scratch: &[u8],
     permanent: bool,
 ) -> MarkNumbers
-    ensures { λ r. ⌜ r ≡ markedNumbers ((marking permanent (geometryOf unit sector sectors)
-        (flashOf (now (slot0 .entry)) (now (slot1 .entry)) (now (scratch .entry)))) .answer) ⌝ }
-    ensures { λ _. ⌜ flashOf (now (slot0 .entry)) (now (slot1 .exit)) (now (scratch .entry))
-        ≡ (marking permanent (geometryOf unit sector sectors)
-        (flashOf (now (slot0 .entry)) (now (slot1 .entry)) (now (scratch .entry)))) .flash ⌝ }
+    ensures { λ r. ⌜ numbered r (flashOf (now (slot0 .entry)) (now (slot1 .exit)) (now (scratch .entry)))
+        ≡ markNumbered (marking permanent (geometryOf unit sector sectors)
+        (flashOf (now (slot0 .entry)) (now (slot1 .entry)) (now (scratch .entry)))) ⌝ }
 {
     let g = Geometry {
         unit,
@@ -114,11 +118,9 @@ pub extern "C" fn scale_confirm(
     slot1: &[u8],
     scratch: &[u8],
 ) -> MarkNumbers
-    ensures { λ r. ⌜ r ≡ markedNumbers ((confirming (geometryOf unit sector sectors)
-        (flashOf (now (slot0 .entry)) (now (slot1 .entry)) (now (scratch .entry)))) .answer) ⌝ }
-    ensures { λ _. ⌜ flashOf (now (slot0 .exit)) (now (slot1 .entry)) (now (scratch .entry))
-        ≡ (confirming (geometryOf unit sector sectors) (flashOf (now (slot0 .entry)) (now (slot1 .entry))
-        (now (scratch .entry)))) .flash ⌝ }
+    ensures { λ r. ⌜ numbered r (flashOf (now (slot0 .exit)) (now (slot1 .entry)) (now (scratch .entry)))
+        ≡ markNumbered (confirming (geometryOf unit sector sectors)
+        (flashOf (now (slot0 .entry)) (now (slot1 .entry)) (now (scratch .entry)))) ⌝ }
 {
     let g = Geometry {
         unit,

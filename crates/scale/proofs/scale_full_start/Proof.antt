@@ -1,6 +1,4 @@
-use mathlib.Core.Path.{ap, _∙_}
-use Rattle.loader.specs.PowerUp.{Result}
-use Rattle.answers.specs.Numbers.{answerNumbers}
+use Rattle.scale.specs.Boundary.{start-told}
 use borrow.Author.Needs.{needs}
 use Rattle.scale.proofs.scale_full_start.Statement.{statement}
 use Rattle.scale.proofs.scale_full_start.Tie as tie
@@ -21,9 +19,7 @@ same-length-3 : tie.Need-same-length-3
 same-length-3 c = search needs
 
 returns : tie.Need-returns
-returns c =
-    let is = c .before .before .before .before .before .before .before .full-start .ensures in
-    (c .of-answer .ensures ∙ ap (λ (x : Result). answerNumbers (x .answer)) is, ap (λ (x : Result). x .flash) is)
+returns c = search (needs, start-told)
 
 pub scale-full-start-spec : {M : Type 1} → statement M
 scale-full-start-spec =
