@@ -21,8 +21,8 @@ enum { GUARD = 32, LARGEST = 3 * 3104, FEATURES = 4096 };
 
 __attribute__((used, section("__libfuzzer_extra_counters"))) static uint8_t features[FEATURES];
 
-/* ends[done][end, or 2 + refusal], marked[refusal] and checks[cause], over the whole run */
-static unsigned long ends[6][11], marked[9], checks[6], runs;
+/* ends[done][end, or 2 + refusal], marked[refusal], checks[cause] and records[found], over the whole run */
+static unsigned long ends[6][11], marked[9], checks[6], records[3], runs;
 
 typedef struct {
     uint8_t bytes[3][GUARD + LARGEST + GUARD];
@@ -191,6 +191,31 @@ static void check(scale *s, unsigned index, size_t length)
         DEMAND(cause == 2);
 }
 
+/* Any bytes as trailing records, asked at any place, and then from there on to their end. */
+static void walk(scale *s, unsigned index, size_t from, size_t length, size_t at)
+{
+    flash before = s->now;
+    if (from > s->length[index])
+        from = s->length[index];
+    if (length > s->length[index] - from)
+        length = s->length[index] - from;
+    const uint8_t *bytes = area(&s->now, index) + from;
+    for (;;) {
+        scale_record r = scale_record_at(bytes, length, at);
+        DEMAND(r.found <= SCALE_RECORD_STUMP && (r.found == SCALE_RECORD_END) == (at >= length));
+        records[r.found]++;
+        feature(4, (unsigned)r.found, length < 4);
+        if (r.found != SCALE_RECORD_FOUND) {
+            DEMAND(r.type == 0 && r.start == 0 && r.size == 0);
+            break;
+        }
+        DEMAND(r.start == at + 4 && r.start <= length && r.size <= length - r.start);
+        DEMAND(r.type == bytes[at] && r.size == (uint64_t)(bytes[at + 2] | bytes[at + 3] << 8));
+        at = r.start + r.size;
+    }
+    DEMAND(same(&s->now, &before));
+}
+
 /* ---- changes ---- */
 
 static void put_image(uint8_t *slot, size_t room, unsigned header, unsigned body, unsigned flaw)
@@ -288,6 +313,7 @@ static void print_reached(void)
     printf("  marking and confirming: done %lu, refused 1 %lu, 2 %lu, 5 %lu, 6 %lu, 7 %lu\n", marked[0], marked[1], marked[2], marked[5],
            marked[6], marked[7]);
     printf("  image check: accepted %lu, causes %lu %lu %lu %lu %lu\n", checks[0], checks[1], checks[2], checks[3], checks[4], checks[5]);
+    printf("  records: ends %lu, records %lu, stumps %lu\n", records[0], records[1], records[2]);
 }
 
 int LLVMFuzzerInitialize(int *count, char ***arguments);
@@ -314,7 +340,16 @@ int LLVMFuzzerTestOneInput(const uint8_t *bytes, size_t length)
         case 3: start(&s, UINT64_MAX, true, true); break;
         case 4: mark(&s, false, what & 16); break;
         case 5: mark(&s, true, false); break;
-        case 6: check(&s, next(&in) % 3, next2(&in)); break;
+        case 6: {
+            unsigned index = next(&in) % 3, length = next2(&in);
+            if (what & 16) {
+                unsigned from = next2(&in), at = next(&in);
+                walk(&s, index, from, length, what & 32 ? SIZE_MAX - at : at);
+            } else {
+                check(&s, index, length);
+            }
+            break;
+        }
         default: change(&s, &in, what % 16 - 7); break;
         }
     }

@@ -114,6 +114,14 @@
  *   3    the trailing records do not fill their area exactly
  *   4    not exactly one digest record (type 1), or its length is not 32
  *   5    the digest of header and body differs from the recorded one
+ *
+ * Trailing records
+ * ----------------
+ * An image is a header, a body and then its trailing records; every number in it is little endian. Of the header: the size of the records
+ * in bytes stands at 4 (2 bytes), the header size at 8 (2), the body size at 12 (4). So the records of an image that scale_check_image
+ * accepts begin at header size + body size, and fill their size exactly, one behind the other. A record is its type (1 byte), a pad byte,
+ * its length (2 bytes), and then that many bytes. Type 1 is the digest of header and body, 32 bytes; the loader gives no other type
+ * a meaning, so that a version or a key may stand in a record of any other type. scale_record_at walks over them.
  */
 #ifndef SCALE_H
 #define SCALE_H
@@ -164,6 +172,21 @@ typedef struct {
     uint64_t count;   /* operations carried out; 0 with refusals 1, 2, 5, 6 and 7 */
 } scale_marked;
 
+/* What stands at a place of the trailing records. */
+enum {
+    SCALE_RECORD_END = 0,   /* nothing: the records end there, or before it */
+    SCALE_RECORD_FOUND = 1, /* a whole record */
+    SCALE_RECORD_STUMP = 2  /* bytes that make no whole record: the records do not fill their area (cause 3) */
+};
+
+/* A record. `type`, `start` and `size` are 0 where none was found. */
+typedef struct {
+    uint64_t found; /* SCALE_RECORD_...: what stands there */
+    uint64_t type;  /* its type, 0 to 255; the digest is 1 */
+    uint64_t start; /* where its bytes start, counted from the start of the records; never beyond their end */
+    uint64_t size;  /* how many bytes it has, 0 to 65535; the next record begins at start + size */
+} scale_record;
+
 /*
  * SHA-256 (FIPS 180-4) of `length` bytes at `message`, into the 32 bytes at `digest`.
  */
@@ -174,6 +197,17 @@ void scale_sha256(const uint8_t *message, size_t length, uint8_t digest[32]);
  * (sectors - 1) * sector bytes. Bytes after the image are not read. Writes nothing.
  */
 uint32_t scale_check_image(const uint8_t *image, size_t length);
+
+/*
+ * What stands at place `at` of the trailing records, `length` bytes at `records`. Any `at` may be asked: SCALE_RECORD_END is the answer
+ * where it is `length` or more. Writes nothing, and reads nothing outside the records. To go over them all:
+ *
+ *   for (r = scale_record_at(records, length, 0); r.found == SCALE_RECORD_FOUND; r = scale_record_at(records, length, r.start + r.size))
+ *       ...                      its bytes are records[r.start] and on
+ *
+ * This ends, since each record takes four bytes and more; SCALE_RECORD_END then tells that the records fill their area exactly.
+ */
+scale_record scale_record_at(const uint8_t *records, size_t length, size_t at);
 
 /*
  * The plain start: what to do at each power-up. Resumes an exchange that was cut; else does the exchange that is due (slot 1 is marked,

@@ -65,6 +65,7 @@ static void unmarked(void)
 static void empty(void) { sink = 0; }
 static void hash(void) { scale_sha256(slot1, DATA, digest); }
 static void check(void) { sink = scale_check_image(slot1, DATA); }
+static void record(void) { sink = scale_record_at(slot1, DATA, 0).size; }
 static void plain(void) { sink = scale_power_up(AREAS, UINT64_MAX).count; }
 static void full(void) { sink = scale_full_start(AREAS, UINT64_MAX, true).count; }
 static void mark(void) { sink = scale_mark(AREAS, true).count; }
@@ -113,6 +114,7 @@ int main(void)
     } cases[] = {
         {"scale_sha256", due, hash},
         {"scale_check_image", due, check},
+        {"scale_record_at", due, record},
         {"scale_power_up, exchange", due, plain},
         {"scale_power_up, resumed", cut, plain},
         {"scale_power_up, clear-out", flawed, plain},

@@ -151,6 +151,26 @@ static uint64_t cuts(size_t due, size_t ended, size_t below) {
     return count;
 }
 
+/* What stands at a place of the records, which are lent as they are. */
+static scale_record say_record(const uint8_t *records, size_t length, size_t place) {
+    scale_record r = scale_record_at(records, length, place);
+    if (r.found == SCALE_RECORD_FOUND)
+        printf("type %" PRIu64 " at %" PRIu64 " of %" PRIu64, r.type, r.start, r.size);
+    else
+        printf(r.found == SCALE_RECORD_END ? "end" : r.found == SCALE_RECORD_STUMP ? "stump" : "WRONG");
+    if (r.found != SCALE_RECORD_FOUND && (r.type || r.start || r.size))
+        printf(" WRONG");
+    return r;
+}
+
+static void walk(const uint8_t *records, size_t length) {
+    scale_record r = say_record(records, length, 0);
+    while (r.found == SCALE_RECORD_FOUND) {
+        printf(", ");
+        r = say_record(records, length, r.start + r.size);
+    }
+}
+
 /* Commands that print nothing. */
 static bool change(void) {
     if (is("geometry", 5)) {
@@ -203,6 +223,13 @@ static void tell(void) {
             printf("cause %" PRIu32, cause);
         else
             printf("accepted");
+    } else if (is("record", 4) || is("records", 3)) {
+        uint8_t *records = copy_of(at(n[0], n[1], n[2]), n[2]);
+        if (numbers == 4)
+            say_record(records, n[2], n[3]);
+        else
+            walk(records, n[2]);
+        free(records);
     } else if (is("same", 5)) {
         printf(memcmp(at(n[0], n[1], n[4]), at(n[2], n[3], n[4]), n[4]) == 0 ? "right" : "WRONG");
     } else if (is("leaves", 2)) {

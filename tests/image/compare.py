@@ -102,17 +102,20 @@ def main():
     images = list(cases(random.Random(seed), 200_000 if long else 20_000))
     sent = b''.join(struct.pack('<Q', len(lent)) + lent for lent in images)
     run = subprocess.run([driver], input=sent, stdout=subprocess.PIPE, check=False)
-    if run.returncode != 0 or len(run.stdout) != len(images):
-        sys.exit('image: the driver ended with %d after %d of %d images (seed %d)' % (run.returncode, len(run.stdout), len(images), seed))
-    counts = [0] * 6
+    told = run.stdout.decode().splitlines()
+    if run.returncode != 0 or len(told) != len(images):
+        sys.exit('image: the driver ended with %d after %d of %d images (seed %d)' % (run.returncode, len(told), len(images), seed))
+    counts, walked = [0] * 6, 0
     for i, lent in enumerate(images):
-        wanted = model.cause(lent)
-        counts[wanted] += 1
-        if run.stdout[i] != wanted:
-            sys.exit('image: image %d, of %d bytes: %d, not %d (seed %d)' % (i, len(lent), run.stdout[i], wanted, seed))
+        wanted = model.answer(lent)
+        counts[int(wanted[0])] += 1
+        walked += max(0, len(wanted) - 2)
+        if told[i] != ' '.join(wanted):
+            sys.exit('image: image %d, of %d bytes: %.200s, not %.200s (seed %d)' % (i, len(lent), told[i], ' '.join(wanted), seed))
     if min(counts) < 200:
         sys.exit('image: too few images of some answer: %s (seed %d)' % (counts, seed))
-    print('image: %d images agree with the model: %d accepted, %s of the causes 1 to 5' % (len(images), counts[0], counts[1:]))
+    print('image: %d images agree with the model: %d accepted, %s of the causes 1 to 5; %d records walked over'
+          % (len(images), counts[0], counts[1:], walked))
 
 
 if __name__ == '__main__':

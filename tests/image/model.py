@@ -22,6 +22,26 @@ def records_of(area):
     return found
 
 
+def walk_of(lent):
+    """What a reader tells of the records of an image whose header can be used: TYPE@START+SIZE for each, and then end or stump."""
+    area = lent[number(lent[8:10]) + number(lent[12:16]):][:number(lent[4:6])]
+    told, at = [], 0
+    while at < len(area):
+        start = at + 4
+        size = number(area[at + 2:start])
+        if start + size > len(area):
+            return told + ['stump']
+        told.append('%d@%d+%d' % (area[at], start, size))
+        at = start + size
+    return told + ['end']
+
+
+def answer(lent):
+    """The cause, and the records where it is neither 1 nor 2."""
+    found = cause(lent)
+    return [str(found)] + ([] if found in (1, 2) else walk_of(lent))
+
+
 def cause(lent):
     if len(lent) < 32:
         return 2
