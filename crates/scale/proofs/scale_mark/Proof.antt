@@ -13,7 +13,7 @@ same-length : tie.Need-same-length
 same-length c = search needs
 
 returns : tie.Need-returns
-returns c = search (needs, mark-told)
+returns c = mark-told _ _ _ _ (c .of-marked .ensures) (c .before .before .before .mark .ensures)
 
 pub scale-mark-spec : {M : Type 1} → statement M
 scale-mark-spec = tie.close (tie.spec mark-requires of-marked-requires same-length returns)

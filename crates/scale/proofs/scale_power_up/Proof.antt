@@ -19,7 +19,7 @@ same-length-3 : tie.Need-same-length-3
 same-length-3 c = search needs
 
 returns : tie.Need-returns
-returns c = search (needs, start-told)
+returns c = start-told _ _ _ _ (c .of-answer .ensures) (c .before .before .before .before .before .before .before .power-up .ensures)
 
 pub scale-power-up-spec : {M : Type 1} → statement M
 scale-power-up-spec =
