@@ -157,7 +157,7 @@ module _ (g : Build) (f : Flash) (taken : valid g f ≡ true) where
   happens-or-not h (here {op} t) = inl (trailer-whole op h t)
   happens-or-not h (later c) = inr c
 
--- and both come, of every operation that is not the list's last
+-- and both come: not done, of every operation; done, of every one but the list's last
 pub not-done : (g : Build) (op : Op) (ops : List Op) (f : Flash) → Cut g (op ∷ ops) f f
 not-done g op ops f = here (as-before refl)
 

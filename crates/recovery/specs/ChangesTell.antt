@@ -53,7 +53,7 @@ slot1-else b k i (suc r) e = one (ap (λ (x : Bool). x && eqb i (k .0)) e) (slot
 
 module _ (check : List ℕ → Bool) (g : Build) (sound : Sound g) {f f' : Flash} (d : During g (inForce check g f) f f') where
   -- what is unnamed for the course is as it was
-  as-before : (course : Course) → decide check g f ≡ course → (b : Area) (k : Sector) → Unnamed (named g course) b k
+  pub as-before : (course : Course) → decide check g f ≡ course → (b : Area) (k : Sector) → Unnamed (named g course) b k
       → sectorOf g f' b k ≡ sectorOf g f b k
   as-before course e b k n = in-force-only check g sound d b k (rw e n)
 

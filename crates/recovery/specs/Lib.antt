@@ -13,6 +13,7 @@ pub mod Changes
 pub mod NamedWorked
 pub mod ClearOut
 pub mod ChangesTell
+pub mod DoneSectors
 pub mod Count
 pub mod Edges
 pub mod LeastAllowance
