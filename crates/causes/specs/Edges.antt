@@ -42,11 +42,11 @@ edges =
     -- "Sizes summing to m·s pass, one more is cause 2." (w 1, s 512, n 2: m·s is 512)
     ∷ row (structure (header 36 32 188 1 ++ body 444 ++ digest 32)) (Sound 476 480)
     ∷ row (answer (header 36 32 189 1 ++ body 444 ++ digest 32)) 2
-    -- "Records area 0 bytes: cause 4. 36 bytes with the digest record: passes to the digest. 38 with the same record first: cause 3."
+    -- "Records area 0 bytes: cause 4.* 36 bytes with the digest record: passes to the digest. 38 with the same record first: cause 3.*"
     ∷ row (answer (header 0 32 8 0 ++ body 8)) 4
     ∷ row (structure (header 36 32 0 0 ++ digest 32)) (Sound 32 36)
     ∷ row (answer (header 38 32 8 0 ++ body 8 ++ digest 32 ++ (0 ∷ 0 ∷ []))) 3
-    -- "A digest record of length 31 filling its area: cause 4. An empty record of type 2 before it: no objection."
+    -- "A digest record of length 31 filling its area: cause 4.* An empty record of type 2 before it: no objection.*"
     ∷ row (answer (header 35 32 8 0 ++ body 8 ++ digest 31)) 4
     ∷ row (structure (header 40 32 8 0 ++ body 8 ++ empty ++ digest 32)) (Sound 40 48)
     -- "1. header magic wrong"; "fewer than 32 bytes lent (asked before cause 1)"; "5. the digest differs"; "accepted or its cause"

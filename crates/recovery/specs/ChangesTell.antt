@@ -1,4 +1,4 @@
--- What "only the named sectors change" tells, said by the sectors and bytes that are as they were; and what `During` takes in.
+-- What it tells that only the named sectors change, said by the sectors and bytes that are as they were; and what `During` takes in.
 use mathlib.Core.Path.{_≡_, refl, sym, ap, _∙_}
 use mathlib.Core.Logic.{_⊎_, inl, inr}
 use mathlib.Core.List.{List, [], _∷_}
