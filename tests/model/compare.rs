@@ -7,7 +7,7 @@ use crate::make;
 use crate::random::Random;
 use crate::sha256;
 use crate::states;
-use crate::subject::{self, raw, raw_marked};
+use crate::subject::{self, raw, raw_marked, raw_record};
 
 /// Calls compared, or the difference.
 pub type Outcome = Result<u64, String>;
@@ -110,6 +110,24 @@ pub fn one_image(lent: &mut Lent, seed: u64) -> Outcome {
     match lent.difference(&flash) {
         Some(difference) => Err(format!("image check and digest of {} bytes: {difference}", bytes.len())),
         None => Ok(2),
+    }
+}
+
+/// Trailing records, whole or not, asked at every place and beyond.
+pub fn some_records(lent: &mut Lent, seed: u64) -> Outcome {
+    let mut random = Random(seed);
+    let flash = Flash { areas: [make::records_to_read(&mut random), Vec::new(), Vec::new()] };
+    let length = flash.areas[0].len();
+    lent.load(&flash, random.below(16));
+    for at in (0..length + 3).chain([usize::MAX - 3, usize::MAX]) {
+        let (got, wanted) = (subject::record_at(lent.area(0), at), raw_record(image::record_at(&flash.areas[0], at)));
+        if got != wanted {
+            return Err(format!("place {at} of {length} bytes of records: got {got:?}, wanted {wanted:?}"));
+        }
+    }
+    match lent.difference(&flash) {
+        Some(difference) => Err(format!("{length} bytes of records: {difference}")),
+        None => Ok(length as u64 + 5),
     }
 }
 

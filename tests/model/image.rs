@@ -51,28 +51,49 @@ pub fn header(lent: &[u8]) -> Result<Header, u64> {
     Ok(found)
 }
 
+/// What stands at a place of the trailing records.
+#[derive(Clone, Copy, PartialEq, Debug)]
+pub enum Found {
+    End,
+    Record { kind: u8, start: usize, size: usize },
+    Stump,
+}
+
+pub fn record_at(area: &[u8], at: usize) -> Found {
+    if at >= area.len() {
+        reach(if at == area.len() { Branch::RecordsEnd } else { Branch::BeyondRecords });
+        return Found::End;
+    }
+    let left = area.len() - at;
+    if left < 4 {
+        reach([Branch::LeftOver1, Branch::LeftOver2, Branch::LeftOver3][left - 1]);
+        return Found::Stump;
+    }
+    let size = number(area, at + 2, 2) as usize;
+    if size > left - 4 {
+        reach(Branch::RecordTooLong);
+        return Found::Stump;
+    }
+    if area[at + 1] != 0 {
+        reach(Branch::PadByteSet);
+    }
+    Found::Record { kind: area[at], start: at + 4, size }
+}
+
 /// The records as type and bytes, or cause 3.
 fn records(area: &[u8]) -> Result<Vec<(u8, &[u8])>, u64> {
     let mut found = Vec::new();
     let mut at = 0;
-    while at < area.len() {
-        let left = area.len() - at;
-        if left < 4 {
-            reach([Branch::LeftOver1, Branch::LeftOver2, Branch::LeftOver3][left - 1]);
-            return Err(3);
+    loop {
+        match record_at(area, at) {
+            Found::End => return Ok(found),
+            Found::Stump => return Err(3),
+            Found::Record { kind, start, size } => {
+                found.push((kind, &area[start..start + size]));
+                at = start + size;
+            }
         }
-        let length = number(area, at + 2, 2) as usize;
-        if length > left - 4 {
-            reach(Branch::RecordTooLong);
-            return Err(3);
-        }
-        if area[at + 1] != 0 {
-            reach(Branch::PadByteSet);
-        }
-        found.push((area[at], &area[at + 4..at + 4 + length]));
-        at += 4 + length;
     }
-    Ok(found)
 }
 
 /// Accepted, or the cause from 1 to 5.

@@ -33,6 +33,7 @@ struct Size {
     states: u64,
     large_states: u64,
     images: u64,
+    records: u64,
     chains: u64,
     /// unit and sectors per slot of the exchanges that are cut at every point, and the name under which they are run again
     exchanges: &'static [(usize, usize)],
@@ -46,6 +47,7 @@ const SHORT: Size = Size {
     states: 40_000,
     large_states: 60,
     images: 40_000,
+    records: 2_000,
     chains: 3_000,
     exchanges: &[(1, 2), (2, 2), (4, 2), (8, 2), (1, 3), (2, 3), (4, 3), (8, 3)],
     cuts: "cuts",
@@ -57,6 +59,7 @@ const LONG: Size = Size {
     states: 300_000,
     large_states: 600,
     images: 300_000,
+    records: 20_000,
     chains: 40_000,
     exchanges: &[(1, 2), (1, 3), (1, 5), (2, 2), (2, 3), (2, 5), (4, 2), (4, 3), (4, 5), (8, 2), (8, 3), (8, 5)],
     cuts: "long-cuts",
@@ -122,6 +125,7 @@ fn compare_all(size: &Size, base: u64) -> Result<String, String> {
     let seeds = |part: u64, count: u64| (0..count).map(move |number| seed(base, part, number));
     let digests = compare::digests(seed(base, 0, 0))?;
     let images = each("image", seeds(1, size.images), |seed| compare::one_image(lent, seed))?;
+    let records = each("records", seeds(7, size.records), |seed| compare::some_records(lent, seed))?;
     let states = each("state", seeds(2, size.states), |seed| compare::one_state(lent, seed, false))?;
     let large = each("large", seeds(3, size.large_states), |seed| compare::one_state(lent, seed, true))?;
     let branches = reached::verdict()?;
@@ -134,13 +138,13 @@ fn compare_all(size: &Size, base: u64) -> Result<String, String> {
         None => 0,
     };
     reached::verdict()?;
-    let made = [edges, images, digests, states, large, cuts, chains, pairs.max(u64::from(size.second_cuts_every.is_none()))];
+    let made = [edges, images, records, digests, states, large, cuts, chains, pairs.max(u64::from(size.second_cuts_every.is_none()))];
     if made.contains(&0) {
         return Err(format!("a part made no comparison: {made:?}"));
     }
     let total = size.states + size.large_states;
     Ok(format!(
-        "{edges} edges, {total} states ({} calls), {images} image calls, {digests} digests, {branches} branches all reached, \
+        "{edges} edges, {total} states ({} calls), {images} image calls, {records} places of records, {digests} digests, {branches} branches all reached, \
          {cuts} cuts taken up ({cuts_took:.1} s), {} chains of {chains} cuts, {pairs} pairs of cuts: no difference",
         states + large,
         size.chains
@@ -172,6 +176,7 @@ fn main() {
         "state" => compare::one_state(lent, again(), false).map(|calls| format!("{calls} calls")),
         "large" => compare::one_state(lent, again(), true).map(|calls| format!("{calls} calls")),
         "image" => compare::one_image(lent, again()).map(|calls| format!("{calls} calls")),
+        "records" => compare::some_records(lent, again()).map(|places| format!("{places} places")),
         "cuts" => every_cut(lent, again(), &SHORT).map(|cuts| format!("{cuts} cuts")),
         "long-cuts" => every_cut(lent, again(), &LONG).map(|cuts| format!("{cuts} cuts")),
         "chain" => chain(lent, again()).map(|cuts| format!("{cuts} cuts")),

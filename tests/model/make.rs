@@ -149,6 +149,24 @@ fn long_record(random: &mut Random) -> Vec<u8> {
     bytes
 }
 
+/// Records one behind the other, of any types, often with a rest that makes none.
+pub fn records_to_read(random: &mut Random) -> Vec<u8> {
+    let mut area = Vec::new();
+    for _ in 0..random.below(5) {
+        let length = random.pick(&[0, 0, 1, 3, 4, 32, 255, 256, 300]);
+        area.extend(records_area(&[Record { kind: random.byte(), pad: random.byte(), bytes: random.bytes(length) }]));
+    }
+    match random.below(4) {
+        0 => area.truncate(random.below(area.len() + 1)),
+        1 => {
+            let rest = random.below(8);
+            area.extend(random.bytes(rest));
+        }
+        _ => {}
+    }
+    area
+}
+
 /// Any bytes for the image check alone, of any length.
 pub fn bytes_to_check(random: &mut Random) -> Vec<u8> {
     if random.percent(10) {

@@ -28,7 +28,7 @@ branches! {
     // the image check
     Accepted, TooFewBytes, HeaderMagic, HeaderSizeUnder, HeaderSizeLeast, HeaderExtended, SumAbove, SumAboveByOne, SumExact, SumOver32Bits,
     LeftOver1, LeftOver2, LeftOver3, RecordTooLong, EmptyArea, NoDigest, TwoDigests, DigestLength, OtherRecords, EmptyRecord, PadByteSet,
-    DigestDiffers, BodyEmpty,
+    DigestDiffers, BodyEmpty, RecordsEnd, BeyondRecords,
     // the lists
     FreshTest, FreshPermanent, FreshRevert, ClearOkWritten, ClearOkLeft, StaleScratchOk,
     // the ends

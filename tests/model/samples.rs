@@ -6,7 +6,8 @@ use std::path::Path;
 use crate::edges::SMALL;
 use crate::flash::{Area, Flash, Geometry};
 use crate::loader::{Answer, End};
-use crate::make::image;
+use crate::image::{record_at, Found};
+use crate::make::{image, image_with, record};
 use crate::random::Random;
 
 fn word(answer: &Answer) -> String {
@@ -68,16 +69,23 @@ pub fn write_dumps(folder: &Path) -> std::io::Result<()> {
     Ok(())
 }
 
+/// The text of the record of type 16 that stands first in such an image, behind a header of 32 bytes and a body of 10.
+fn version(slot: &[u8]) -> String {
+    let Found::Record { kind: 16, start, size } = record_at(&slot[42..], 0) else { unreachable!("the example's images have a version") };
+    String::from_utf8_lossy(&slot[42 + start..][..size]).into_owned()
+}
+
 /// What examples/exchange.c prints, worked out by the model.
 pub fn print_example() {
     let geometry = Geometry { unit: 4, sector: 2048, sectors: 3 };
     let mut flash = geometry.erased();
-    for (slot, text) in [(0, "firmware 1"), (1, "firmware 2")] {
-        let bytes = image(text.as_bytes());
+    let firmware = |text: &str, version: &str| image_with(32, text.as_bytes(), &[record(16, version.as_bytes().to_vec())], &[]);
+    for (slot, bytes) in [(0, firmware("firmware 1", "1.9")), (1, firmware("firmware 2", "2.0.1"))] {
         flash.areas[slot][..bytes.len()].copy_from_slice(&bytes);
     }
     println!("geometry: write unit 4, sector 2048, 3 sectors per slot");
-    println!("slot 1: image of {} bytes, check 0", image(b"firmware 2").len());
+    println!("slot 1: image of {} bytes, check 0", firmware("firmware 2", "2.0.1").len());
+    println!("slot 1: version {}", version(&flash.areas[1]));
     let marked = geometry.mark_slot1(&mut flash, false);
     println!("mark for a test: refusal {}, {} operations", marked.refusal, marked.count);
     for start in 1.. {
@@ -96,6 +104,7 @@ pub fn print_example() {
         }
     }
     println!("slot 0 runs: firmware {}; slot 1 keeps: firmware {}", flash.areas[0][41] as char, flash.areas[1][41] as char);
+    println!("slot 0: version {}", version(&flash.areas[0]));
     let confirmed = geometry.confirm(&mut flash);
     println!("confirm: refusal {}, {} operations", confirmed.refusal, confirmed.count);
     let answer = geometry.power_up(&mut flash, 0, true);

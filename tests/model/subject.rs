@@ -2,6 +2,7 @@
 //! Built without the archive (no `--cfg archive`), the model stands in for it: that tries this program and says nothing of the archive.
 
 use crate::flash::Geometry;
+use crate::image::Found;
 use crate::lent::Lent;
 use crate::loader::{Answer, End, Marked};
 
@@ -24,6 +25,15 @@ pub struct RawMarked {
     pub count: u64,
 }
 
+#[derive(Clone, Copy, PartialEq, Debug)]
+#[repr(C)]
+pub struct RawRecord {
+    pub found: u64,
+    pub kind: u64,
+    pub start: u64,
+    pub size: u64,
+}
+
 /// The model's answer in the numbers of the C boundary.
 pub fn raw(answer: Answer) -> RawAnswer {
     let (end, offset, refusal, cause) = match answer.end {
@@ -38,6 +48,14 @@ pub fn raw_marked(marked: Marked) -> RawMarked {
     RawMarked { refusal: marked.refusal, count: marked.count }
 }
 
+pub fn raw_record(found: Found) -> RawRecord {
+    match found {
+        Found::End => RawRecord { found: 0, kind: 0, start: 0, size: 0 },
+        Found::Record { kind, start, size } => RawRecord { found: 1, kind: kind as u64, start: start as u64, size: size as u64 },
+        Found::Stump => RawRecord { found: 2, kind: 0, start: 0, size: 0 },
+    }
+}
+
 #[cfg(archive)]
 mod calls {
     use super::*;
@@ -48,6 +66,7 @@ mod calls {
     unsafe extern "C" {
         fn scale_sha256(message: *const u8, length: usize, digest: *mut u8);
         fn scale_check_image(image: *const u8, length: usize) -> u32;
+        fn scale_record_at(records: *const u8, length: usize, at: usize) -> RawRecord;
         fn scale_power_up(
             unit: usize, sector: usize, sectors: usize, slot0: *mut u8, slot0_length: usize, slot1: *mut u8, slot1_length: usize,
             scratch: *mut u8, scratch_length: usize, allowance: u64,
@@ -102,6 +121,10 @@ mod calls {
     pub fn check_image(image: &[u8]) -> u32 {
         unsafe { scale_check_image(image.as_ptr(), image.len()) }
     }
+
+    pub fn record_at(records: &[u8], at: usize) -> RawRecord {
+        unsafe { scale_record_at(records.as_ptr(), records.len(), at) }
+    }
 }
 
 #[cfg(not(archive))]
@@ -143,6 +166,10 @@ mod calls {
     pub fn check_image(image: &[u8]) -> u32 {
         crate::image::check(image).err().unwrap_or(0) as u32
     }
+
+    pub fn record_at(records: &[u8], at: usize) -> RawRecord {
+        raw_record(crate::image::record_at(records, at))
+    }
 }
 
-pub use calls::{check_image, digest, NAME};
+pub use calls::{check_image, digest, record_at, NAME};

@@ -15,7 +15,7 @@ mod trailer;
 
 use flash::{Flash, Geometry};
 use std::slice::{from_raw_parts, from_raw_parts_mut};
-use subject::{raw, raw_marked, RawAnswer, RawMarked};
+use subject::{raw, raw_marked, raw_record, RawAnswer, RawMarked, RawRecord};
 
 type Lent = (*mut u8, usize);
 
@@ -38,6 +38,11 @@ pub unsafe extern "C" fn scale_sha256(message: *const u8, length: usize, digest:
 #[unsafe(no_mangle)]
 pub unsafe extern "C" fn scale_check_image(image: *const u8, length: usize) -> u32 {
     image::check(unsafe { from_raw_parts(image, length) }).err().unwrap_or(0) as u32
+}
+
+#[unsafe(no_mangle)]
+pub unsafe extern "C" fn scale_record_at(records: *const u8, length: usize, at: usize) -> RawRecord {
+    raw_record(image::record_at(unsafe { from_raw_parts(records, length) }, at))
 }
 
 #[unsafe(no_mangle)]
