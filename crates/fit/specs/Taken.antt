@@ -8,7 +8,8 @@ use lib.Dec.{eqb, leb}
 use borrow.Author.Tests.{leb-true}
 use Rattle.spans.specs.Choice.{every, both}
 use Rattle.flash.specs.declared.Geometry.{Geometry}
-use Rattle.flash.specs.Build.{asked, fits}
+use Rattle.flash.specs.Geometry.{slotBytes}
+use Rattle.flash.specs.Build.{scratchBytes, asked, fits}
 use Rattle.flash.specs.Base.{base, build}
 use Rattle.flash.specs.Units.{each-unit}
 use Rattle.flash.specs.Small.{Small}
@@ -22,7 +23,7 @@ sizesAsked g =
     (g .sectors) 128 ∷ []
 
 unfoldable pub lengthsAsked : Geometry → ℕ → ℕ → ℕ → List Bool
-lengthsAsked g l0 l1 l2 = eqb l0 (g .sectors * g .sector) ∷ eqb l1 (g .sectors * g .sector) ∷ eqb l2 (2 * g .sector) ∷ []
+lengthsAsked g l0 l1 l2 = eqb l0 (slotBytes g .0) ∷ eqb l1 (slotBytes g .0) ∷ eqb l2 (scratchBytes (build g) .0) ∷ []
 
 and-assoc : (a b c : Bool) → ((a && b) && c) ≡ (a && (b && c))
 and-assoc true b c = refl

@@ -47,14 +47,15 @@ fn lengths_taken(g: Geometry, l0: usize, l1: usize, l2: usize) -> bool
     requires { ⌜ Small g ⌝ }
     ensures { λ r. ⌜ r ≡ every (lengthsAsked g l0 l1 l2) ⌝ }
 {
-    let slot = g.sectors * g.sector;
-    if l0 != slot {
+    let slot = flash::slot_bytes(g);
+    if l0 != slot.0 {
         return false;
     }
-    if l1 != slot {
+    if l1 != slot.0 {
         return false;
     }
-    l2 == 2 * g.sector
+    let scratch = flash::scratch_bytes(g);
+    l2 == scratch.0
 }
 
 // Whether the geometry and the areas' lengths are those of document 01. Nothing is divided or multiplied before its bounds are known.

@@ -1,13 +1,14 @@
 -- Document 01, "The flash": the three areas and their sectors; and what one build of the loader differs in from another.
 use mathlib.Core.List.{List, [], _∷_}
 use mathlib.Core.Bool.{Bool, true, false, _||_}
-use Prim.Native.Nat.{ℕ, suc, _+_, _*_, _-_, _%_}
+use Prim.Native.Nat.{ℕ, suc, _+_, _*_, _%_}
 use lib.ListN.{length}
 use lib.Dec.{eqb, leb}
 use Rattle.spans.specs.Choice.{every}
 use Rattle.flash.specs.declared.Geometry.{Geometry}
 use Rattle.flash.specs.declared.Sector.{Sector}
-use Rattle.flash.specs.Geometry.{sectorNo}
+use Rattle.flash.specs.declared.Bytes.{Bytes}
+use Rattle.flash.specs.Geometry.{sectorNo, sectorBytes, lastSector, slotBytes}
 
 pub data Area : Type 0 where
   slot0 slot1 scratch : Area
@@ -33,14 +34,21 @@ pub record Build : Type 0 where
 abbrev pub geometry : Build → Geometry
 geometry g = record { unit = g .unit; sector = g .sector; sectors = g .sectors }
 
--- "The last sector of a slot is its trailer sector; the m = n − 1 before it are data."
+-- how many sectors stand before the trailer sector: "The last sector of a slot is its trailer sector; the m = n − 1 before it are data."
 abbrev pub dataSectors : Build → Area → ℕ
-dataSectors g slot0 = g .sectors - 1
-dataSectors g slot1 = g .sectors - 1
+dataSectors g slot0 = lastSector (geometry g) .0
+dataSectors g slot1 = lastSector (geometry g) .0
 dataSectors g scratch = g .spare
 
 abbrev pub trailerSector : Build → Area → Sector
 trailerSector g a = sectorNo (dataSectors g a)
+
+-- the bytes of scratch, and those that the image check is lent
+abbrev pub scratchBytes : Build → Bytes
+scratchBytes g = sectorBytes (geometry g) (suc (g .spare))
+
+abbrev pub lentBytes : Build → Bytes
+lentBytes g = sectorBytes (geometry g) (g .lent)
 
 pub record Flash : Type 0 where
   pub in0 : List ℕ
@@ -75,7 +83,7 @@ asked g l0 l1 l2 =
     (eqb (g .unit) 1 || eqb (g .unit) 2 || eqb (g .unit) 4 || eqb (g .unit) 8)
     ∷ eqb (g .sector % g .unit) 0 ∷ leb (384 * g .unit + 32) (g .sector) ∷ leb (g .sector) 65536
     ∷ leb 2 (g .sectors) ∷ leb (g .sectors) 128
-    ∷ eqb l0 (g .sectors * g .sector) ∷ eqb l1 (g .sectors * g .sector) ∷ eqb l2 (suc (g .spare) * g .sector) ∷ []
+    ∷ eqb l0 (slotBytes (geometry g) .0) ∷ eqb l1 (slotBytes (geometry g) .0) ∷ eqb l2 (scratchBytes g .0) ∷ []
 
 unfoldable pub fits : Build → ℕ → ℕ → ℕ → Bool
 fits g l0 l1 l2 = every (asked g l0 l1 l2)

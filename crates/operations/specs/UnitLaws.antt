@@ -15,10 +15,11 @@ use Rattle.spans.specs.CutOff.{put-take-join}
 use Rattle.spans.specs.Blanks.{blanks, blanks-yes, blanks-no, blanks-le, blanks-after, blanks-on}
 use Rattle.flash.specs.declared.Geometry.{Geometry}
 use Rattle.flash.specs.declared.Unit.{Unit}
+use Rattle.flash.specs.declared.Units.{Units}
 use Rattle.flash.specs.declared.Run.{Run}
 use Rattle.flash.specs.declared.End.{End}
 use Rattle.flash.specs.declared.End.the-variants.{Going, Stopped, Unerased}
-use Rattle.flash.specs.Geometry.{unitNo, placeOf, nextUnit}
+use Rattle.flash.specs.Geometry.{unitNo, unitCount, placeOf, bytesIn, further, nextUnit}
 use Rattle.flash.specs.Operations.{Local, local, going, onward, attempt, erased, writeIn, writeAllIn}
 
 -- ---- what is done after the end is nothing
@@ -36,7 +37,7 @@ halted-writes g (suc k) u bs xs b e h = rw (h (local xs (record { left = b; end 
 -- ---- the units that are erased, of n from u on, up to the first that is not
 
 unfoldable pub blankRun : Geometry → Unit → ℕ → List ℕ → ℕ
-blankRun g u n xs = blanks (g .unit) (u .0 * g .unit) n xs
+blankRun g u n xs = blanks (g .unit) (placeOf g u .0) n xs
 
 run-yes : (g : Geometry) (n : ℕ) (u : Unit) (xs : List ℕ) → erased g u xs ≡ true → blankRun g u (suc n) xs
     ≡ suc (blankRun g (nextUnit u) n xs)
@@ -56,12 +57,12 @@ unfolding blankRun
 blank-run-after g n u xs at ys h = blanks-after (g .unit) (u .0 * g .unit) n xs at ys h
 
 -- all of them
-pub blank-run-all : (g : Geometry) (n : ℕ) (u : Unit) (xs : List ℕ) → part xs (u .0 * g .unit) (n * g .unit)
-    ≡ blank (n * g .unit) → blankRun g u n xs ≡ n
+pub blank-run-all : (g : Geometry) (n : Units) (u : Unit) (xs : List ℕ) → part xs (placeOf g u .0) (bytesIn g n .0)
+    ≡ blank (bytesIn g n .0) → blankRun g u (n .0) xs ≡ n .0
 unfolding blankRun blanks
 blank-run-all g n u xs h =
-    let z : n ≡ n + 0 = omega arith in
-    ap (λ (m : ℕ). blanks (g .unit) (u .0 * g .unit) m xs) z ∙ blanks-on (g .unit) (u .0 * g .unit) n 0 xs h ∙ omega arith
+    let z : n .0 ≡ n .0 + 0 = omega arith in
+    ap (λ (m : ℕ). blanks (g .unit) (placeOf g u .0) m xs) z ∙ blanks-on (g .unit) (placeOf g u .0) (n .0) 0 xs h ∙ omega arith
 
 -- ---- the closed form
 
@@ -192,33 +193,34 @@ unfolding blankRun
 blank-run-le g n u xs = blanks-le (g .unit) (u .0 * g .unit) n xs
 
 -- the k units passed are erased, and so is the next, or not
-pub blank-run-next : (g : Geometry) (u : Unit) (n k : ℕ) (xs : List ℕ) → k < n → erased g (unitNo (u .0 + k)) xs ≡ true
-    → k + blankRun g (unitNo (u .0 + k)) (n - k) xs ≡ k + 1 + blankRun g (unitNo (u .0 + (k + 1))) (n - (k + 1)) xs
+pub blank-run-next : (g : Geometry) (u : Unit) (n k : ℕ) (xs : List ℕ) → k < n → erased g (further u (unitCount k)) xs ≡ true
+    → k + blankRun g (further u (unitCount k)) (n - k) xs ≡ k + 1 + blankRun g (further u (unitCount (k + 1))) (n - (k + 1)) xs
 blank-run-next g u n k xs h e =
     let d : n - k ≡ suc (n - (k + 1)) = omega arith in
     let a : u .0 + k + 1 ≡ u .0 + (k + 1) = omega arith in
-    ap (λ (m : ℕ). k + blankRun g (unitNo (u .0 + k)) m xs) d
-    ∙ ap (λ (m : ℕ). k + m) (run-yes g (n - (k + 1)) (unitNo (u .0 + k)) xs e)
+    ap (λ (m : ℕ). k + blankRun g (further u (unitCount k)) m xs) d
+    ∙ ap (λ (m : ℕ). k + m) (run-yes g (n - (k + 1)) (further u (unitCount k)) xs e)
     ∙ ap (λ (v : ℕ). k + suc (blankRun g (unitNo v) (n - (k + 1)) xs)) a ∙ omega arith
 
-pub blank-run-stop : (g : Geometry) (u : Unit) (n k : ℕ) (xs : List ℕ) → k < n → erased g (unitNo (u .0 + k)) xs ≡ false
-    → k + blankRun g (unitNo (u .0 + k)) (n - k) xs ≡ k
+pub blank-run-stop : (g : Geometry) (u : Unit) (n k : ℕ) (xs : List ℕ) → k < n → erased g (further u (unitCount k)) xs ≡ false
+    → k + blankRun g (further u (unitCount k)) (n - k) xs ≡ k
 blank-run-stop g u n k xs h e =
     let d : n - k ≡ suc (n - (k + 1)) = omega arith in
-    ap (λ (m : ℕ). k + blankRun g (unitNo (u .0 + k)) m xs) d
-    ∙ ap (λ (m : ℕ). k + m) (run-no g (n - (k + 1)) (unitNo (u .0 + k)) xs e) ∙ omega arith
+    ap (λ (m : ℕ). k + blankRun g (further u (unitCount k)) m xs) d
+    ∙ ap (λ (m : ℕ). k + m) (run-no g (n - (k + 1)) (further u (unitCount k)) xs e) ∙ omega arith
 
 -- what the code has after its one copy is what the units come to
-pub copied : (g : Geometry) (units : ℕ) (to : Unit) (src : List ℕ) (from : ℕ) (xs : List ℕ) (left reached written : ℕ) (ys : List ℕ)
-    (r : Run)
-    → reached ≡ min left units → written ≡ blankRun g to reached xs → ys ≡ put xs (placeOf g to .0) (part src from (written * g .unit))
-    → r .left ≡ left - written → r .end ≡ pick (ltb written reached) Unerased (pick (ltb left units) Stopped Going)
-    → local ys r ≡ writeAllIn g to units (part src from (units * g .unit)) (local xs (going left))
+pub copied : (g : Geometry) (units : Units) (to : Unit) (src : List ℕ) (from : ℕ) (xs : List ℕ) (left : ℕ) (reached written : Units)
+    (ys : List ℕ) (r : Run)
+    → reached .0 ≡ min left (units .0) → written .0 ≡ blankRun g to (reached .0) xs
+    → ys ≡ put xs (placeOf g to .0) (part src from (bytesIn g written .0)) → r .left ≡ left - written .0
+    → r .end ≡ pick (ltb (written .0) (reached .0)) Unerased (pick (ltb left (units .0)) Stopped Going)
+    → local ys r ≡ writeAllIn g to (units .0) (part src from (bytesIn g units .0)) (local xs (going left))
 unfolding part
 copied g units to src from xs left reached written ys r er ew ey el ee =
-    let w : ℕ = g .unit in
-    let bs : List ℕ = part src from (units * w) in
-    let few : written * w ≤ units * w = mul-le-mul-right w (omega (arith, blank-run-le g reached to xs)) in
-    let cut : take (written * w) bs ≡ part src from (written * w) = take-take (written * w) (units * w) (drop from src) few in
+    let bs : List ℕ = part src from (bytesIn g units .0) in
+    let few : bytesIn g written .0 ≤ bytesIn g units .0 = mul-le-mul-right (g .unit) (omega (arith, blank-run-le g (reached .0) to xs)) in
+    let cut : take (bytesIn g written .0) bs ≡ part src from (bytesIn g written .0) =
+    take-take (bytesIn g written .0) (bytesIn g units .0) (drop from src) few in
     let same-run : local ys r ≡ local ys (record { left = r .left; end = r .end }) = refl in
-    same-run ∙ rw (ey, el, ee, ← cut) (rw (ew, er) (sym (writes-at-once g units to bs xs left)))
+    same-run ∙ rw (ey, el, ee, ← cut) (rw (ew, er) (sym (writes-at-once g (units .0) to bs xs left)))

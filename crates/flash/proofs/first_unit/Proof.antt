@@ -1,28 +1,27 @@
-use Prim.Native.Nat.{_/_, _≤_}
-use native.Mathlib.Nat.{mul-le-mul, div-le-self}
+use mathlib.Core.Path.{_≡_, ap}
+use Prim.Native.Nat.{_*_, _/_, _≤_}
+use native.Mathlib.Nat.{div-le-self}
 use native.Mathlib.Omega.{arith}
+use Rattle.flash.specs.declared.Units.{Units}
+use Rattle.flash.specs.Geometry.{unitNo}
+use Rattle.flash.specs.Small.{product-fits}
 use borrow.Author.Needs.{needs}
 use Rattle.flash.proofs.first_unit.Statement.{statement}
 use Rattle.flash.proofs.first_unit.Tie as tie
 
-div-t3 : tie.Need-div-t3
-div-t3 c = search needs
+units-per-sector-requires : tie.Need-units-per-sector-requires
+units-per-sector-requires c κs = search needs
 
 mul-t4 : tie.Need-mul-t4
 mul-t4 c =
-    let q : c .before .before .args .g .sector / c .before .before .args .g .unit ≤ 65536 = omega (
-      arith,
-      div-le-self
-          (c .before .before .args .g .sector) (c .before .before .args .g .unit),
-    ) in
-    omega (
-      arith,
-      mul-le-mul {n₁ = c .before .before .args .i .0}
-          {m₁ = c .before .before .args .g .sector / c .before .before .args .g .unit} {n₂ = 128} {m₂ = 65536} (omega arith) (omega arith),
-    )
+    let given = c .before .before .before .args in
+    let per = c .before .before .units-per-sector in
+    let e : per .result .0 ≡ given .g .sector / given .g .unit = ap (λ (n : Units). n .0) (per .ensures) in
+    let small : per .result .0 ≤ 65536 = omega (arith, e, div-le-self (given .g .sector) (given .g .unit)) in
+    omega (arith, product-fits (given .i .0) (per .result .0) (omega arith) small)
 
 returns : tie.Need-returns
-returns c = search needs
+returns c = ap (λ (n : Units). unitNo (c .before .before .before .args .i .0 * n .0)) (c .before .before .units-per-sector .ensures)
 
 pub first-unit-spec : {M : Type 1} → statement M
-first-unit-spec = tie.close (tie.spec div-t3 mul-t4 returns)
+first-unit-spec = tie.close (tie.spec units-per-sector-requires mul-t4 returns)

@@ -1,16 +1,11 @@
-use native.Mathlib.Nat.{mul-le-mul}
 use native.Mathlib.Omega.{arith}
+use Rattle.flash.specs.Small.{product-fits}
 use borrow.Author.Needs.{needs}
 use Rattle.flash.proofs.place_of.Statement.{statement}
 use Rattle.flash.proofs.place_of.Tie as tie
 
 mul-t3 : tie.Need-mul-t3
-mul-t3 c =
-    omega (
-      arith,
-      mul-le-mul {n₁ = c .before .before .args .u .0} {m₁ = c .before .before .args .g .unit} {n₂ = 8388608} {m₂ = 8}
-          (omega arith) (omega arith),
-    )
+mul-t3 c = let given = c .before .before .args in omega (arith, product-fits (given .u .0) (given .g .unit) (omega arith) (omega arith))
 
 returns : tie.Need-returns
 returns c = search needs

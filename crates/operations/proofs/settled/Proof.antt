@@ -8,15 +8,15 @@ sub-rest : tie.Need-sub-rest
 sub-rest c = search needs
 
 returns : tie.Need-returns
-returns c = (refl, rw (lt-ltb (c .before .args .written) (c .before .args .reached) (c .if1 .taken)))
+returns c = (refl, rw (lt-ltb (c .before .before .before .args .written .0) (c .before .before .before .args .reached .0) (c .if1 .taken)))
 
 returns-2 : tie.Need-returns-2
 returns-2 c = (
   refl,
   rw (
-    le-ltb (c .before .before .args .written) (c .before .before .args .reached) (c .before .if1 .left),
+    le-ltb (c .before .before .before .before .args .written .0) (c .before .before .before .before .args .reached .0) (c .before .if1 .left),
     lt-ltb
-        (c .before .before .args .left) (c .before .before .args .units) (c .if2 .taken),
+        (c .before .before .before .before .args .left) (c .before .before .before .before .args .units .0) (c .if2 .taken),
   ),
 )
 
@@ -24,9 +24,9 @@ returns-3 : tie.Need-returns-3
 returns-3 c = (
   refl,
   rw (
-    le-ltb (c .before .before .args .written) (c .before .before .args .reached) (c .before .if1 .left),
+    le-ltb (c .before .before .before .before .args .written .0) (c .before .before .before .before .args .reached .0) (c .before .if1 .left),
     le-ltb
-        (c .before .before .args .left) (c .before .before .args .units) (c .if2 .left),
+        (c .before .before .before .before .args .left) (c .before .before .before .before .args .units .0) (c .if2 .left),
   ),
 )
 

@@ -1,10 +1,10 @@
-use mathlib.Core.Path.{ap, ap₂, _∙_}
-use Prim.Native.Nat.{_*_, _-_, _/_, min}
-use lib.ListN.{length}
+use mathlib.Core.Path.{ap, _∙_}
+use Prim.Native.Nat.{_*_}
+use native.Mathlib.Omega.{arith}
 use Rattle.spans.specs.Bytes.{part, put}
-use Rattle.spans.specs.Blanks.{blanks}
 use Rattle.flash.specs.declared.Offset.{Offset}
-use Rattle.operations.specs.FrontLaws.{front-there, front-ends}
+use Rattle.flash.specs.Geometry.{byteCount}
+use Rattle.operations.specs.FrontLaws.{counted-from, front-there}
 use borrow.Author.Needs.{needs}
 use Rattle.operations.proofs.write_blocks.Statement.{statement}
 use Rattle.operations.proofs.write_blocks.Tie as tie
@@ -12,11 +12,21 @@ use Rattle.operations.proofs.write_blocks.Tie as tie
 place-of-requires : tie.Need-place-of-requires
 place-of-requires c κs = search needs
 
-place-of-requires-2 : tie.Need-place-of-requires-2
-place-of-requires-2 c κs = search needs
+bytes-in-requires : tie.Need-bytes-in-requires
+bytes-in-requires c κs = search needs
 
 copy-blank-requires : tie.Need-copy-blank-requires
 copy-blank-requires c κs = search needs
+
+mul-t12 : tie.Need-mul-t12
+mul-t12 c =
+    let given = c .before .before .before .before .before .before .before .before .args in
+    let blocks = c .before .before .copy-blank .result in
+    let counted = counted-from (given .g) (given .to) (given .reached) (given .src .now) (given .from .0) (given .dst .now) blocks _ _
+    (c .before .before .before .before .before .place-of .ensures) (c .before .before .before .before .bytes-in .ensures) (c .before .before .copy-blank .ensures .0) in
+    let there = front-there (given .g) (c .before .before .before .before .before .before .before .before .pre .0) (given .to) (given .reached) (given .src .now) (given .from .0) (given .dst .now)
+    (byteCount (blocks * 512)) counted in
+    omega (arith, there .0)
 
 same-length : tie.Need-same-length
 same-length c = search needs
@@ -24,22 +34,16 @@ same-length c = search needs
 returns : tie.Need-returns
 returns c =
     let given = c .before .before .before .before .before .before .before .before .args in
-    let small = c .before .before .before .before .before .before .before .before .pre .0 in
-    let copied = c .before .before .copy-blank in
-    let at = c .before .before .before .before .before .place-of .ensures in
-    let counted = copied .ensures .0 ∙ ap₂ (λ (o p : Offset). blanks 512 (o .0)
-    (min (min (p .0) (length (given .src .now) - given .from .0)) (length (given .dst .now) - o .0) / 512)
-    (given .dst .now)) at (c .before .before .before .before .place-of2 .ensures) in
-    let there = front-there (given .g) small (given .to) (given .reached) (given .src .now) (given .from .0)
-    (given .dst .now) (copied .result) counted in
-    let ends = front-ends (given .g) small (given .to) (given .reached) (given .src .now) (given .from .0)
-    (given .dst .now) (copied .result) counted
-    (c .before .before .before .before .before .before .before .before .pre .1) in
-    let bytes = copied .ensures .1 ∙ ap (λ (o : Offset). put (given .dst .now) (o .0)
-    (part (given .src .now) (given .from .0) (copied .result * 512))) at in
-    (counted, ((there .0, there .1, ends), bytes))
+    let blocks = c .before .before .copy-blank .result in
+    let counted = counted-from (given .g) (given .to) (given .reached) (given .src .now) (given .from .0) (given .dst .now) blocks _ _
+    (c .before .before .before .before .before .place-of .ensures) (c .before .before .before .before .bytes-in .ensures) (c .before .before .copy-blank .ensures .0) in
+    let there = front-there (given .g) (c .before .before .before .before .before .before .before .before .pre .0) (given .to) (given .reached) (given .src .now) (given .from .0) (given .dst .now)
+    (byteCount (blocks * 512)) counted in
+    let bytes = c .before .before .copy-blank .ensures .1 ∙ ap (λ (o : Offset). put (given .dst .now) (o .0)
+    (part (given .src .now) (given .from .0) (blocks * 512))) (c .before .before .before .before .before .place-of .ensures) in
+    (counted, (there, bytes))
 
 pub write-blocks-spec : {M : Type 1} → statement M
 write-blocks-spec =
     tie.close
-    (tie.spec place-of-requires place-of-requires-2 copy-blank-requires same-length returns)
+    (tie.spec place-of-requires bytes-in-requires copy-blank-requires mul-t12 same-length returns)

@@ -1,8 +1,12 @@
-use mathlib.Core.Path.{ap, ap₂, _∙_}
-use Prim.Native.Nat.{_+_, _*_}
+use mathlib.Core.Path.{_≡_, ap, ap₂, _∙_}
+use Prim.Native.Nat.{_-_}
 use native.Mathlib.Omega.{arith}
 use Rattle.spans.specs.Bytes.{part, put}
 use Rattle.flash.specs.declared.Offset.{Offset}
+use Rattle.flash.specs.declared.Unit.{Unit}
+use Rattle.flash.specs.declared.Units.{Units}
+use Rattle.flash.specs.Geometry.{unitsIn, placeOf, bytesIn, further}
+use Rattle.operations.specs.UnitLaws.{blankRun}
 use Rattle.operations.specs.FrontLaws.{both-parts}
 use borrow.Author.Needs.{needs}
 use Rattle.operations.proofs.write_erased.Statement.{statement}
@@ -11,81 +15,80 @@ use Rattle.operations.proofs.write_erased.Tie as tie
 write-blocks-requires : tie.Need-write-blocks-requires
 write-blocks-requires c κs = search needs
 
-div-done : tie.Need-div-done
-div-done c = search needs
+units-in-requires : tie.Need-units-in-requires
+units-in-requires c κs = search needs
 
-mul-done : tie.Need-mul-done
-mul-done c = search needs
+further-requires : tie.Need-further-requires
+further-requires c κs =
+    omega (arith, c .before .before .before .before .before .before .before .pre .1, c .before .before .before .write-blocks .ensures .1 .0 .1, ap (λ (n : Units). n .0) (c .units-in .ensures))
 
-add-copy : tie.Need-add-copy
-add-copy c = search needs
-
-sub-blank-units : tie.Need-sub-blank-units
-sub-blank-units c = search needs
+sub-t14 : tie.Need-sub-t14
+sub-t14 c =
+    omega (arith, c .before .before .before .before .before .before .write-blocks .ensures .1 .0 .1, ap (λ (n : Units). n .0) (c .before .before .before .units-in .ensures))
 
 blank-units-requires : tie.Need-blank-units-requires
-blank-units-requires c κs = search needs
+blank-units-requires c κs = (
+  c .before .before .before .before .before .before .before .before .before .before .before .pre .0,
+  omega (
+    arith,
+    c .before .before .before .before .before .before .before .before .before .before .before .pre .1,
+    c .before .before .before .before .before .before .before .write-blocks .ensures .1 .0 .1,
+    ap (λ (n : Units). n .0) (c .before .before .before .before .units-in .ensures),
+    ap (λ (u : Unit). u .0) (c .before .before .before .further .ensures),
+  ),
+)
 
-place-of-requires : tie.Need-place-of-requires
-place-of-requires c κs = search needs
+beyond-requires : tie.Need-beyond-requires
+beyond-requires c κs = search needs
 
-place-of-requires-2 : tie.Need-place-of-requires-2
-place-of-requires-2 c κs = search needs
+copy-all-requires : tie.Need-copy-all-requires
+copy-all-requires c κs = (
+  c .before .before .before .before .before .before .before .before .before .before .before .before .before .before .pre .0,
+  omega (
+    arith,
+    c .before .before .before .before .before .before .before .before .before .before .before .before .before .before .pre .1,
+    c .before .before .before .before .before .before .before .before .before .before .write-blocks .ensures .1 .0 .1,
+    ap (λ (n : Units). n .0) (c .before .before .before .before .before .before .before .units-in .ensures),
+    ap (λ (u : Unit). u .0) (c .before .before .before .before .before .before .further .ensures),
+    c .before .before .blank-units .ensures .1,
+  ),
+)
 
-mul-copy : tie.Need-mul-copy
-mul-copy c = search needs
-
-add-copy-2 : tie.Need-add-copy-2
-add-copy-2 c = search needs
-
-mul-copy-2 : tie.Need-mul-copy-2
-mul-copy-2 c = search needs
-
-add-copy-3 : tie.Need-add-copy-3
-add-copy-3 c =
-    omega (
-      arith,
-      ap (λ (o : Offset). o .0) (c .before .before .before .before .place-of .ensures),
-      c .before .before .before .before .before .before .before .before .before .before .before .write-blocks .ensures .1 .0 .2,
-    )
-
-copy-requires : tie.Need-copy-requires
-copy-requires c κs = search needs
-
-add-result : tie.Need-add-result
-add-result c = search needs
+add-t14 : tie.Need-add-t14
+add-t14 c = search needs
 
 same-length : tie.Need-same-length
 same-length c = search needs
 
 returns : tie.Need-returns
 returns c =
-    let given =
-    c .before .before .before .before .before .before .before .before .before .before .before .before .before .before .before .before .before .before .args in
-    let blocks =
-    c .before .before .before .before .before .before .before .before .before .before .before .before .before .before .write-blocks in
-    let more = c .before .before .before .before .before .before .before .before .blank-units in
-    let parts = both-parts (given .g)
-    (c .before .before .before .before .before .before .before .before .before .before .before .before .before .before .before .before .before .before .pre .0) (given .to) (given .reached) (given .src .now) (given .from .0) (given .dst .now) (blocks .result) (blocks .ensures .0) (more .result) _ _ (blocks .ensures .1 .1) (more .ensures .0) (c .before .before .copy .ensures ∙ ap₂ (λ (o p : Offset). put (blocks .last .1 .1 .1 .0) (o .0 + blocks .result * 512) (part (given .src .now) (given .from .0 + blocks .result * 512) (p .0))) (c .before .before .before .before .before .before .before .place-of .ensures) (c .before .before .before .before .before .before .place-of2 .ensures)) in
-    ((parts .0, omega (arith, more .ensures .1, blocks .ensures .1 .0 .1)), parts .1)
+    let given = c .before .before .before .before .before .before .before .before .before .before .before .before .before .before .before .before .before .before .before .args in
+    let front = c .before .before .before .before .before .before .before .before .before .before .before .before .before .before .before .write-blocks in
+    let done = ap (λ (n : Units). n .0) (c .before .before .before .before .before .before .before .before .before .before .before .before .units-in .ensures) in
+    let next : c .before .before .before .before .before .before .before .before .before .before .before .further .result ≡ further (given .to) (unitsIn (given .g) (front .result)) =
+    c .before .before .before .before .before .before .before .before .before .before .before .further .ensures ∙ ap (further (given .to)) (c .before .before .before .before .before .before .before .before .before .before .before .before .units-in .ensures) in
+    let more = c .before .before .before .before .before .before .before .blank-units in
+    let counted : more .result .0 ≡ blankRun (given .g) (further (given .to) (unitsIn (given .g) (front .result)))
+    (given .reached .0 - unitsIn (given .g) (front .result) .0) (front .last .1 .1 .1 .0) =
+    more .ensures .0 ∙ ap₂ (λ (u : Unit) (n : Units). blankRun (given .g) u (given .reached .0 - n .0) (front .last .1 .1 .1 .0))
+    next (c .before .before .before .before .before .before .before .before .before .before .before .before .units-in .ensures) in
+    let copied = c .before .before .before .before .copy-all .ensures ∙ ap₂ (λ (u : Unit) (o : Offset). put (front .last .1 .1 .1 .0) (placeOf (given .g) u .0)
+    (part (given .src .now) (o .0) (bytesIn (given .g) (more .result) .0))) next (c .before .before .before .before .before .before .beyond .ensures) in
+    let parts = both-parts (given .g) (c .before .before .before .before .before .before .before .before .before .before .before .before .before .before .before .before .before .before .before .pre .0) (given .to) (given .reached) (given .src .now) (given .from .0) (given .dst .now)
+    (front .result) (front .ensures .0) (more .result .0) _ _ (front .ensures .1 .1) counted copied in
+    ((rw done (parts .0), omega (arith, more .ensures .1, front .ensures .1 .0 .1, done)), rw done (parts .1))
 
 pub write-erased-spec : {M : Type 1} → statement M
 write-erased-spec =
     tie.close
     (tie.spec
     write-blocks-requires
-    div-done
-    mul-done
-    add-copy
-    sub-blank-units
+    units-in-requires
+    further-requires
+    sub-t14
     blank-units-requires
-    place-of-requires
-    place-of-requires-2
-    mul-copy
-    add-copy-2
-    mul-copy-2
-    add-copy-3
-    copy-requires
-    add-result
+    beyond-requires
+    copy-all-requires
+    add-t14
     same-length
     returns)
