@@ -8,7 +8,8 @@ use Rattle.spans.specs.Bytes.{part, blank, same}
 use Rattle.spans.specs.Choice.{pick}
 use Rattle.flash.specs.declared.Sector.{Sector}
 use Rattle.flash.specs.declared.Offset.{Offset}
-use Rattle.flash.specs.Geometry.{byteAt, startOf}
+use Rattle.flash.specs.declared.Units.{Units}
+use Rattle.flash.specs.Geometry.{unitNo, unitCount, byteAt, startOf, placeOf, bytesIn, after}
 use Rattle.flash.specs.Build.{Build, geometry, Flash, Area, area, trailerSector}
 use Rattle.trailer.specs.declared.Magic.{Magic}
 use Rattle.trailer.specs.declared.Mark.{Mark}
@@ -31,14 +32,18 @@ okAt g = byteAt (g .sector - 24)
 abbrev pub copyDoneAt : Build → Offset
 copyDoneAt g = byteAt (g .sector - 32)
 
+-- so many units before that
+abbrev pub marksAt : Build → Units → Offset
+marksAt g n = byteAt (g .sector - 32 - bytesIn (geometry g) n .0)
+
 -- "384w before that"; "Mark j (0 to 2) of sector i stands (127 − i)·3w + j·w into the progress marks"
 unfoldable pub markStands : Build → Sector → ℕ → Offset
-markStands g i j = byteAt (g .sector - 32 - 384 * g .unit + ((127 - i .0) * 3 * g .unit + j * g .unit))
+markStands g i j = after (marksAt g (unitCount 384)) (placeOf (geometry g) (unitNo ((127 - i .0) * 3 + j)))
 
 -- Mark number k in reading order, from sector n − 1 down: marks 0 to 2 are those of sector n − 1, 3 to 5 those of sector n − 2. They are
 -- consecutive units, which `reading-order` shows of `markStands`.
 abbrev pub markAt : Build → ℕ → Offset
-markAt g k = byteAt (g .sector - 32 - 3 * g .sectors * g .unit + k * g .unit)
+markAt g k = after (marksAt g (unitCount (3 * g .sectors))) (placeOf (geometry g) (unitNo k))
 
 -- ---- magic
 

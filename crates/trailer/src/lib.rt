@@ -39,7 +39,7 @@ pub fn slot_trailer(g: Geometry, slot: &[u8]) -> &[u8]
     requires { ⌜ Small g ⌝ }
     ensures { λ r. ⌜ now r ≡ drop (startOf g (trailerSector (build g) slot0) .0) (now (slot .entry)) ⌝ }
 {
-    from_sector(g, slot, Sector(g.sectors - 1))
+    from_sector(g, slot, flash::last_sector(g))
 }
 
 pub fn scratch_trailer(g: Geometry, area: &[u8]) -> &[u8]
