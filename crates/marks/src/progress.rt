@@ -10,6 +10,8 @@ use crate::mark::is_unset;
 use crate::mark::mark_in;
 use flash::Geometry;
 use flash::Offset;
+use flash::Unit;
+use flash::Units;
 use trailer::Mark;
 
 // Where mark number k stands in the trailer sector.
@@ -18,7 +20,9 @@ pub fn mark_place(g: Geometry, k: usize) -> Offset
     requires { ⌜ k < 3 * g .sectors ⌝ }
     ensures { λ r. ⌜ r ≡ markAt (build g) k ⌝ }
 {
-    Offset(g.sector - 32 - 3 * g.sectors * g.unit + k * g.unit)
+    let all = flash::bytes_in(g, Units(3 * g.sectors));
+    let place = flash::place_of(g, Unit(k));
+    flash::after(Offset(g.sector - 32 - all.0), place)
 }
 
 fn progress_mark(g: Geometry, t: &[u8], k: usize) -> Mark

@@ -5,7 +5,7 @@ use Prim.Native.Nat.{ℕ, _+_, _*_, _-_}
 use lib.ListN.{length, take, drop}
 use lib.Dec.{eqb, leb}
 use Rattle.spans.specs.Choice.{pick}
-use Rattle.flash.specs.Build.{slot0, slot1, scratch, Build, Flash, valid}
+use Rattle.flash.specs.Build.{slot0, slot1, scratch, Build, lentBytes, Flash, valid}
 use Rattle.flash.specs.Operations.{Op}
 use Rattle.trailer.specs.Trailer.{trailer, okAt, copyDoneAt, magicOf, isGood, noMagic, markOf, isUnset, hasValue, written, legal}
 use Rattle.plan.specs.declared.Course.{Course}
@@ -62,7 +62,7 @@ judged accepted Nothing = Nothing
 
 unfoldable pub decide : (List ℕ → Bool) → Build → Flash → Course
 decide check g f =
-    judged (check (take (g .lent * g .sector) (f .in1))) (asks g (trailer g slot0 f) (trailer g slot1 f) (trailer g scratch f))
+    judged (check (take (lentBytes g .0) (f .in1))) (asks g (trailer g slot0 f) (trailer g slot1 f) (trailer g scratch f))
 
 -- the list of operations; unset: slot 0's image ok is Unset
 unfoldable pub listOf : Build → Bool → Course → List Op

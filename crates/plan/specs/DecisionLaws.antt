@@ -6,7 +6,8 @@ use Prim.Native.Nat.{ℕ, _+_, _*_, _-_}
 use native.Mathlib.Omega.{arith}
 use lib.ListN.{length, take}
 use Rattle.flash.specs.declared.Geometry.{Geometry}
-use Rattle.flash.specs.Build.{Build, Flash}
+use Rattle.flash.specs.Geometry.{dataBytes}
+use Rattle.flash.specs.Build.{Build, lentBytes, Flash}
 use Rattle.flash.specs.Base.{base, build}
 use Rattle.flash.specs.BaseLaws.{length-moves}
 use Rattle.flash.specs.Small.{Small}
@@ -76,11 +77,11 @@ rejected-course Nothing h = cc
 
 -- the decision of the base, as code comes to it: first what the trailers ask for, then the check where it is asked for
 pub decide-checked : (check : List ℕ → Bool) (g : Geometry) (f : Flash)
-    → decide check (build g) f ≡ judged (check (take ((g .sectors - 1) * g .sector) (f .in1))) (askedBy g f)
+    → decide check (build g) f ≡ judged (check (take (dataBytes g .0) (f .in1))) (askedBy g f)
 unfolding decide base
 decide-checked check g f = refl
 
 pub decide-unchecked : (check : List ℕ → Bool) (g : Geometry) (f : Flash) → asksCheck (askedBy g f) ≡ false
     → decide check (build g) f ≡ askedBy g f
 unfolding decide
-decide-unchecked check g f h = unchecked-course (check (take (build g .lent * build g .sector) (f .in1))) (askedBy g f) h
+decide-unchecked check g f h = unchecked-course (check (take (lentBytes (build g) .0) (f .in1))) (askedBy g f) h

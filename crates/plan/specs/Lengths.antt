@@ -2,12 +2,12 @@
 use mathlib.Core.Path.{_≡_, refl, ap}
 use mathlib.Core.List.{List}
 use mathlib.Core.Bool.{Bool, true, false}
-use Prim.Native.Nat.{ℕ, zero, suc, _/_}
+use Prim.Native.Nat.{ℕ, zero, suc}
 use lib.ListN.{length, drop}
 use Rattle.flash.specs.declared.Unit.{Unit}
 use Rattle.flash.specs.Geometry.{nextUnit}
-use Rattle.flash.specs.Build.{Area, Build}
-use Rattle.trailer.specs.Trailer.{magicBytes, magicAt}
+use Rattle.flash.specs.Build.{Area, Build, geometry}
+use Rattle.trailer.specs.Trailer.{magicBytes, magicUnits, magicAt}
 use Rattle.plan.specs.Lists.{trailerUnit, writes, magicOps, okOps, copies}
 
 -- "p being 1 for permanent and revert and 0 for test"
@@ -30,6 +30,6 @@ unfolding okOps
 length-ok g a true = refl
 length-ok g a false = refl
 
-pub length-magic : (g : Build) (a : Area) → length (magicOps g a) ≡ 16 / g .unit
+pub length-magic : (g : Build) (a : Area) → length (magicOps g a) ≡ magicUnits (geometry g) .0
 unfolding magicOps
-length-magic g a = length-writes g a (trailerUnit g a (magicAt g)) (16 / g .unit) magicBytes
+length-magic g a = length-writes g a (trailerUnit g a (magicAt g)) (magicUnits (geometry g) .0) magicBytes

@@ -1,14 +1,14 @@
 -- Document 01, "Trailer exchange", "Data exchange", "Clear-out": the lists of operations.
 use mathlib.Core.List.{List, [], _∷_, _++_}
 use mathlib.Core.Bool.{Bool, true, false}
-use Prim.Native.Nat.{ℕ, zero, suc, _/_}
+use Prim.Native.Nat.{ℕ, zero, suc}
 use lib.ListN.{take, drop}
 use Rattle.flash.specs.declared.Unit.{Unit}
 use Rattle.flash.specs.declared.Offset.{Offset}
 use Rattle.flash.specs.Geometry.{sectorNo, startOf, unitAt, firstUnit, nextUnit, unitsPerSector, after}
 use Rattle.flash.specs.Build.{Area, slot0, slot1, scratch, Move, Build, geometry, dataSectors, trailerSector}
 use Rattle.flash.specs.Operations.{Op, erase, write, copy}
-use Rattle.trailer.specs.Trailer.{magicAt, okAt, copyDoneAt, markAt, magicBytes, markBytes}
+use Rattle.trailer.specs.Trailer.{magicAt, okAt, copyDoneAt, markAt, magicBytes, magicUnits, markBytes}
 
 -- ---- a trailer sector's erase, and the writes in it
 
@@ -32,7 +32,7 @@ writes g a u (suc k) bs = write a u (take (g .unit) bs) ∷ writes g a (nextUnit
 
 -- "Units of the magic are also written in rising order."
 unfoldable pub magicOps : Build → Area → List Op
-magicOps g a = writes g a (trailerUnit g a (magicAt g)) (16 / g .unit) magicBytes
+magicOps g a = writes g a (trailerUnit g a (magicAt g)) (magicUnits (geometry g) .0) magicBytes
 
 -- image ok 01, if there is to be one
 unfoldable pub okOps : Build → Area → Bool → List Op
@@ -61,7 +61,7 @@ unfoldable pub moveOps : Build → Move → List Op
 moveOps g m =
     erase (m .to) (m .to-sector)
     ∷ copies (m .from) (firstUnit (geometry g) (m .from-sector)) (m .to) (firstUnit (geometry g) (m .to-sector))
-    (unitsPerSector (geometry g))
+    (unitsPerSector (geometry g) .0)
 
 -- "Data exchange": the moves ms, whose marks are those from number c on; "After the last mark, write copy done 01."
 unfoldable pub dataOps : Build → ℕ → List Move → List Op

@@ -6,10 +6,11 @@ use lib.ListN.{drop, getD}
 use lib.Dec.{eqb, ltb}
 use Rattle.spans.specs.Bytes.{part, blank, same}
 use Rattle.spans.specs.Choice.{pick}
+use Rattle.flash.specs.declared.Geometry.{Geometry}
 use Rattle.flash.specs.declared.Sector.{Sector}
 use Rattle.flash.specs.declared.Offset.{Offset}
 use Rattle.flash.specs.declared.Units.{Units}
-use Rattle.flash.specs.Geometry.{unitNo, unitCount, byteAt, startOf, placeOf, bytesIn, after}
+use Rattle.flash.specs.Geometry.{unitNo, unitCount, byteCount, byteAt, startOf, placeOf, bytesIn, unitsIn, after}
 use Rattle.flash.specs.Build.{Build, geometry, Flash, Area, area, trailerSector}
 use Rattle.trailer.specs.declared.Magic.{Magic}
 use Rattle.trailer.specs.declared.Mark.{Mark}
@@ -51,6 +52,10 @@ markAt g k = after (marksAt g (unitCount (3 * g .sectors))) (placeOf (geometry g
 unfoldable pub magicBytes : List ℕ
 magicBytes =
     0x77 ∷ 0xc2 ∷ 0x95 ∷ 0xf3 ∷ 0x60 ∷ 0xd2 ∷ 0xef ∷ 0x7f ∷ 0x35 ∷ 0x52 ∷ 0x50 ∷ 0x0f ∷ 0x2c ∷ 0xb6 ∷ 0x79 ∷ 0x80 ∷ []
+
+-- how many units they are
+abbrev pub magicUnits : Geometry → Units
+magicUnits g = unitsIn g (byteCount 16)
 
 -- "Magic is Good when equal, Unset when all 0xff, otherwise Bad."
 unfoldable pub magicOf : Build → List ℕ → Magic

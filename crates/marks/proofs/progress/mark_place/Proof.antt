@@ -1,34 +1,44 @@
-use Rattle.flash.specs.Base.{base}
+use mathlib.Core.Path.{ap, ap₂, _∙_}
+use Prim.Native.Nat.{_-_}
 use native.Mathlib.Omega.{arith}
-use Rattle.marks.specs.PlaceLaws.{MarksFit, marks-fit}
+use Rattle.flash.specs.declared.Offset.{Offset}
+use Rattle.flash.specs.declared.Bytes.{Bytes}
+use Rattle.flash.specs.Geometry.{byteAt, after}
+use Rattle.flash.specs.Base.{base}
+use Rattle.marks.specs.PlaceLaws.{marks-fit}
 use borrow.Author.Needs.{needs}
 use Rattle.marks.proofs.progress.mark_place.Statement.{statement}
 use Rattle.marks.proofs.progress.mark_place.Tie as tie
 
-fit : (c : tie.Start) → MarksFit (c .args .g) (c .args .k)
-fit c = marks-fit (c .args .g) (c .args .k) (c .pre .0) (omega arith)
-
-sub-t3 : tie.Need-sub-t3
-sub-t3 c = search needs
-
-mul-t4 : tie.Need-mul-t4
-mul-t4 c = search needs
-
 mul-t5 : tie.Need-mul-t5
-mul-t5 c = omega (arith, fit (c .before .before .before))
+mul-t5 c = search needs
 
-sub-t6 : tie.Need-sub-t6
-sub-t6 c = omega (arith, fit (c .before .before .before))
+bytes-in-requires : tie.Need-bytes-in-requires
+bytes-in-requires c κs = search needs
 
-mul-t7 : tie.Need-mul-t7
-mul-t7 c = omega (arith, fit (c .before .before .before .before))
+place-of-requires : tie.Need-place-of-requires
+place-of-requires c κs = search needs
 
-add-t8 : tie.Need-add-t8
-add-t8 c = omega (arith, fit (c .before .before .before .before))
+sub-t5 : tie.Need-sub-t5
+sub-t5 c = search needs
+
+sub-t8 : tie.Need-sub-t8
+sub-t8 c =
+    let f = marks-fit (c .before .before .before .before .before .args .g) (c .before .before .before .before .before .args .k) (c .before .before .before .before .before .pre .0) (omega (arith, c .before .before .before .before .before .pre .1)) in
+    omega (arith, f, ap (λ (b : Bytes). b .0) (c .before .before .before .bytes-in .ensures))
+
+after-requires : tie.Need-after-requires
+after-requires c κs =
+    let f = marks-fit (c .before .before .before .before .before .args .g) (c .before .before .before .before .before .args .k) (c .before .before .before .before .before .pre .0) (omega (arith, c .before .before .before .before .before .pre .1)) in
+    omega (arith, f, ap (λ (o : Offset). o .0) (c .before .before .place-of .ensures))
 
 returns : tie.Need-returns
 unfolding base
-returns c = search needs
+returns c =
+    c .after .ensures
+    ∙ ap₂ (λ (b : Bytes) (o : Offset). after (byteAt (c .before .before .before .before .before .before .args .g .sector - 32 - b .0)) o) (c .before .before .before .before .bytes-in .ensures) (c .before .before .before .place-of .ensures)
 
 pub mark-place-spec : {M : Type 1} → statement M
-mark-place-spec = tie.close (tie.spec sub-t3 mul-t4 mul-t5 sub-t6 mul-t7 add-t8 returns)
+mark-place-spec =
+    tie.close
+    (tie.spec mul-t5 bytes-in-requires place-of-requires sub-t5 sub-t8 after-requires returns)
