@@ -36,10 +36,10 @@ pub fn line_five(g: Geometry, slot0: &mut [u8], lasting: bool, run: Run) -> Run
     ensures { λ r. ⌜ local (now (slot0 .exit)) r ≡ lineFiveIn g (trailerSector (build g) Area.slot0) lasting
         (local (now (slot0 .entry)) run) ⌝ }
 {
-    let last = g.sectors - 1;
-    let ok = writes::write_ok(g, slot0, Sector(last), lasting, run);
+    let last = flash::last_sector(g);
+    let ok = writes::write_ok(g, slot0, last, lasting, run);
     let marks = three_marks(g, slot0, ok);
-    writes::write_magic(g, slot0, Sector(last), marks)
+    writes::write_magic(g, slot0, last, marks)
 }
 
 // Marking: image ok, if it is for good, and magic.
@@ -48,20 +48,20 @@ pub fn ok_and_magic(g: Geometry, slot1: &mut [u8], lasting: bool, run: Run) -> R
     ensures { λ r. ⌜ local (now (slot1 .exit)) r ≡ magicIn g (trailerSector (build g) Area.slot1)
         (okIn g (trailerSector (build g) Area.slot1) lasting (local (now (slot1 .entry)) run)) ⌝ }
 {
-    let last = g.sectors - 1;
-    let ok = writes::write_ok(g, slot1, Sector(last), lasting, run);
-    writes::write_magic(g, slot1, Sector(last), ok)
+    let last = flash::last_sector(g);
+    let ok = writes::write_ok(g, slot1, last, lasting, run);
+    writes::write_magic(g, slot1, last, ok)
 }
 
-// The first sectors of an area.
-pub fn erase_sectors(g: Geometry, area: &mut [u8], count: usize, run: Run) -> Run
+// The sectors of an area that stand before another.
+pub fn erase_sectors(g: Geometry, area: &mut [u8], end: Sector, run: Run) -> Run
     requires { ⌜ Small g ⌝ }
-    requires { ⌜ count ≤ 128 ⌝ }
-    ensures { λ r. ⌜ local (now (area .exit)) r ≡ erasesIn g 0 count (local (now (area .entry)) run) ⌝ }
+    requires { ⌜ end .0 ≤ 128 ⌝ }
+    ensures { λ r. ⌜ local (now (area .exit)) r ≡ erasesIn g 0 (end .0) (local (now (area .entry)) run) ⌝ }
 {
     let mut r = run;
     let mut i = 0;
-    while i < count {
+    while i < end.0 {
         r = operations::erase(g, area, Sector(i), r);
         i += 1;
     }

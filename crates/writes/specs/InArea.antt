@@ -2,7 +2,7 @@
 use mathlib.Core.Path.{_≡_, refl, sym, ap, _∙_}
 use mathlib.Core.List.{List, [], _∷_, _++_}
 use mathlib.Core.Bool.{Bool, true, false}
-use Prim.Native.Nat.{ℕ, zero, suc, _*_, _-_, _/_, _≤_, _<_}
+use Prim.Native.Nat.{ℕ, zero, suc, _*_, _-_, _≤_, _<_}
 use native.Mathlib.Omega.{arith}
 use lib.ListN.{take}
 use lib.Seq.{take-take}
@@ -12,12 +12,12 @@ use Rattle.flash.specs.declared.Geometry.{Geometry}
 use Rattle.flash.specs.declared.Sector.{Sector}
 use Rattle.flash.specs.declared.Offset.{Offset}
 use Rattle.flash.specs.declared.Unit.{Unit}
-use Rattle.flash.specs.Geometry.{sectorNo, startOf, unitAt, after}
+use Rattle.flash.specs.Geometry.{sectorNo, unitCount, startOf, unitAt, bytesIn, after}
 use Rattle.flash.specs.Build.{Area, slot0, scratch, trailerSector}
 use Rattle.flash.specs.Base.{base, build}
 use Rattle.flash.specs.Operations.{Op, State, Local, in-area, back, eraseIn, writeIn, writeAllIn, step, steps}
 use Rattle.flash.specs.OperationLaws.{steps-append}
-use Rattle.trailer.specs.Trailer.{magicAt, okAt, markAt, magicBytes, markBytes}
+use Rattle.trailer.specs.Trailer.{magicAt, okAt, markAt, magicBytes, magicUnits, markBytes}
 use Rattle.plan.specs.Lists.{progress, eraseTrailer, magicOps, okOps, linesOneTwo, erases}
 use Rattle.writes.specs.Steps.{back-own, back-back, in-back, steps-writes}
 
@@ -30,7 +30,7 @@ okIn g i true l = markIn g i (okAt (build g)) 1 l
 okIn g i false l = l
 
 unfoldable pub magicIn : Geometry → Sector → Local → Local
-magicIn g i l = writeAllIn g (unitAt g (after (startOf g i) (magicAt (build g)))) (16 / g .unit) magicBytes l
+magicIn g i l = writeAllIn g (unitAt g (after (startOf g i) (magicAt (build g)))) (magicUnits g .0) magicBytes l
 
 -- the marks of sector n − 1
 unfoldable pub threeIn : Geometry → Sector → Local → Local
@@ -57,7 +57,7 @@ module _ (g : Geometry) (a : Area) where
 
   steps-magic : (s : State) → steps (build g) (magicOps (build g) a) s ≡ back a s (magicIn g (trailerSector (build g) a) (in-area a s))
   unfolding magicOps magicIn base
-  steps-magic s = steps-writes (build g) a (16 / g .unit) (unitAt g (after (startOf g (trailerSector (build g) a)) (magicAt
+  steps-magic s = steps-writes (build g) a (magicUnits g .0) (unitAt g (after (startOf g (trailerSector (build g) a)) (magicAt
       (build g)))) magicBytes s
 
   -- one list after another in the same area
@@ -127,7 +127,8 @@ steps-erases g a i (suc k) s =
 
 -- a mark's bytes are the first of eight
 pub mark-unit : (g : Geometry) (u : Unit) (v : ℕ) (l : Local) → 0 < g .unit → g .unit ≤ 8
-    → writeAllIn g u 1 (part (v ∷ 255 ∷ 255 ∷ 255 ∷ 255 ∷ 255 ∷ 255 ∷ 255 ∷ []) 0 (1 * g .unit)) l ≡ writeIn g u (markBytes (build g) v) l
+    → writeAllIn g u 1 (part (v ∷ 255 ∷ 255 ∷ 255 ∷ 255 ∷ 255 ∷ 255 ∷ 255 ∷ []) 0 (bytesIn g (unitCount 1) .0)) l
+    ≡ writeIn g u (markBytes (build g) v) l
 unfolding writeAllIn part markBytes base blank
 mark-unit g u v l lo hi = ap (λ (bs : List ℕ). writeIn g u bs l) (twice ∙ first (g .unit) lo hi)
   where

@@ -11,7 +11,7 @@ use Rattle.spans.specs.Runs.{drop-take}
 use Rattle.flash.specs.declared.Geometry.{Geometry}
 use Rattle.flash.specs.declared.Sector.{Sector}
 use Rattle.flash.specs.declared.Unit.{Unit}
-use Rattle.flash.specs.Geometry.{placeOf, firstUnit, nextUnit, unitsPerSector}
+use Rattle.flash.specs.Geometry.{unitCount, placeOf, bytesIn, firstUnit, nextUnit, unitsPerSector}
 use Rattle.flash.specs.Build.{Area, slot0, slot1, scratch, sameArea, Move, Build, geometry, area}
 use Rattle.flash.specs.Operations.{State, Local, in-area, back, eraseIn, writeIn, writeAllIn, step, steps}
 use Rattle.plan.specs.Lists.{writes, copies, moveOps}
@@ -57,7 +57,7 @@ rest-of xs at w k =
     drop-take w (suc k * w) (drop at xs) ∙ ap (λ (n : ℕ). take n (drop w (drop at xs))) e ∙ ap (take (k * w)) (drop-drop w at xs)
 
 -- k units are written from no more bytes than theirs
-pub own-bytes : (g : Geometry) (k : ℕ) (u : Unit) (bs : List ℕ) (l : Local) → writeAllIn g u k (part bs 0 (k * g .unit)) l
+pub own-bytes : (g : Geometry) (k : ℕ) (u : Unit) (bs : List ℕ) (l : Local) → writeAllIn g u k (part bs 0 (bytesIn g (unitCount k) .0)) l
     ≡ writeAllIn g u k bs l
 unfolding writeAllIn part
 own-bytes g zero u bs l = refl
@@ -82,7 +82,8 @@ steps-writes g a (suc k) u bs s =
 
 pub steps-copies : (g : Build) (a b : Area) → sameArea b a ≡ false → (k : ℕ) (v u : Unit) (s : State)
     → steps g (copies a v b u k) s
-    ≡ back b s (writeAllIn (geometry g) u k (part (area a (s .flash)) (placeOf (geometry g) v .0) (k * g .unit)) (in-area b s))
+    ≡ back b s (writeAllIn (geometry g) u k (part (area a (s .flash)) (placeOf (geometry g) v .0) (bytesIn (geometry g) (unitCount k) .0))
+    (in-area b s))
 unfolding steps step copies writeAllIn
 steps-copies g a b h zero v u s = sym (back-own b s)
 steps-copies g a b h (suc k) v u s =
@@ -103,7 +104,7 @@ steps-copies g a b h (suc k) v u s =
 -- a move, from the bytes src of the area that it comes from
 unfoldable pub moveIn : Geometry → List ℕ → Sector → Sector → Local → Local
 moveIn g src from to l =
-    writeAllIn g (firstUnit g to) (unitsPerSector g) (part src (placeOf g (firstUnit g from) .0) (unitsPerSector g * g .unit))
+    writeAllIn g (firstUnit g to) (unitsPerSector g .0) (part src (placeOf g (firstUnit g from) .0) (bytesIn g (unitsPerSector g) .0))
     (eraseIn g to l)
 
 pub steps-move : (g : Build) (m : Move) → sameArea (m .to) (m .from) ≡ false → (s : State)
@@ -112,7 +113,7 @@ pub steps-move : (g : Build) (m : Move) → sameArea (m .to) (m .from) ≡ false
 unfolding steps step moveOps moveIn
 steps-move g m h s =
     let l : Local = eraseIn (geometry g) (m .to-sector) (in-area (m .to) s) in
-    let n : ℕ = unitsPerSector (geometry g) in
+    let n : ℕ = unitsPerSector (geometry g) .0 in
     let v : Unit = firstUnit (geometry g) (m .from-sector) in
     let u : Unit = firstUnit (geometry g) (m .to-sector) in
     steps-copies g (m .from) (m .to) h n v u (back (m .to) s l)

@@ -8,11 +8,13 @@ ghost use Rattle.flash.specs.Small.{Small};
 ghost use Rattle.flash.specs.Operations.{local};
 ghost use Rattle.trailer.specs.Trailer.{markAt};
 ghost use Rattle.writes.specs.InArea.{markIn, okIn, magicIn};
+use flash::Bytes;
 use flash::Geometry;
 use flash::Offset;
 use flash::Run;
 use flash::Sector;
 use flash::Unit;
+use flash::Units;
 
 // The unit at an offset into sector i.
 fn unit_in(g: Geometry, i: Sector, at: Offset) -> Unit
@@ -21,7 +23,7 @@ fn unit_in(g: Geometry, i: Sector, at: Offset) -> Unit
     ensures { λ r. ⌜ (r ≡ unitAt g (after (startOf g i) at)) × (r .0 + (g .sector - at .0) ≤ 8388608) ⌝ }
 {
     let start = flash::start_of(g, i);
-    flash::unit_at(g, Offset(start.0 + at.0))
+    flash::unit_at(g, flash::after(start, at))
 }
 
 pub fn write_mark(g: Geometry, area: &mut [u8], i: Sector, at: Offset, value: u8, run: Run) -> Run
@@ -31,7 +33,7 @@ pub fn write_mark(g: Geometry, area: &mut [u8], i: Sector, at: Offset, value: u8
 {
     let u = unit_in(g, i, at);
     let bytes = [value, 255, 255, 255, 255, 255, 255, 255];
-    operations::write_units(g, &bytes, Offset(0), area, u, 1, run)
+    operations::write_units(g, &bytes, Offset(0), area, u, Units(1), run)
 }
 
 // Progress mark number k, in slot 0.
@@ -43,7 +45,8 @@ pub fn write_progress(g: Geometry, slot0: &mut [u8], k: usize, run: Run) -> Run
 {
     let at = marks::progress::mark_place(g, k);
     let value = (1 + k % 3) as u8;
-    write_mark(g, slot0, Sector(g.sectors - 1), at, value, run)
+    let last = flash::last_sector(g);
+    write_mark(g, slot0, last, at, value, run)
 }
 
 // Image ok 01, if there is to be one.
@@ -68,5 +71,6 @@ pub fn write_magic(g: Geometry, area: &mut [u8], i: Sector, run: Run) -> Run
     let at = marks::magic::magic_place(g);
     let u = unit_in(g, i, at);
     let bytes = marks::magic::magic_bytes();
-    operations::write_units(g, &bytes, Offset(0), area, u, 16 / g.unit, run)
+    let units = flash::units_in(g, Bytes(16));
+    operations::write_units(g, &bytes, Offset(0), area, u, units, run)
 }

@@ -13,15 +13,15 @@ use Rattle.lines.proofs.erase_sectors.Statement.{statement}
 use Rattle.lines.proofs.erase_sectors.Tie as tie
 
 abbrev Inv-loop : tie.InvT-loop
-Inv-loop g area₀ count r₀ i₀ area r i = (i ≤ count) × (length area ≡ length area₀) × (erasesIn g 0 count (local area₀ r₀)
-    ≡ erasesIn g i (count - i) (local area r))
+Inv-loop g area₀ end r₀ i₀ area r i = (i ≤ end .0) × (length area ≡ length area₀) × (erasesIn g 0 (end .0) (local area₀ r₀)
+    ≡ erasesIn g i (end .0 - i) (local area r))
 
 abbrev μ-loop : tie.MeasureT-loop
-μ-loop g area₀ count r₀ i₀ area r i = count - i
+μ-loop g area₀ end r₀ i₀ area r i = end .0 - i
 
 loop-holds : tie.Need-loop-holds Inv-loop μ-loop
 loop-holds c =
-    let z : c .before .args .count ≡ c .before .args .count - 0 = omega arith in
+    let z : c .before .args .end .0 ≡ c .before .args .end .0 - 0 = omega arith in
     (omega arith, refl, ap (λ (k : ℕ). erasesIn (c .before .args .g) 0 k (local (c .before .args .area .now) (c .before .args .run))) z)
 
 erase-requires : tie.Need-erase-requires Inv-loop μ-loop
@@ -36,17 +36,17 @@ loop-less c = search needs
 loop-again : tie.Need-loop-again Inv-loop μ-loop
 unfolding erasesIn
 loop-again c =
-    let given = c .before .before .before .before .before .before .before .args in
-    let i : ℕ = c .before .before .before .before .before .loop .i in
-    let d : given .count - i ≡ suc
-    (given .count - (i + 1)) = omega arith in (
+    let given = c .before .before .before .before .before .before .before .before .args in
+    let i : ℕ = c .before .before .before .before .before .before .loop .i in
+    let d : given .end .0 - i ≡ suc
+    (given .end .0 - (i + 1)) = omega arith in (
       omega arith,
       search needs,
-      c .before .before .before .before .before .loop .inv .2 ∙ ap (λ (k : ℕ). erasesIn
+      c .before .before .before .before .before .before .loop .inv .2 ∙ ap (λ (k : ℕ). erasesIn
           (given .g) i k (local
-          (c .before .before .before .before .before .loop .area) (c .before .before .before .before .before .loop .r))) d
+          (c .before .before .before .before .before .before .loop .area) (c .before .before .before .before .before .before .loop .r))) d
           ∙ ap₂ (λ (k : ℕ) (l : Local). erasesIn (given .g) k
-          (given .count - (i + 1)) l) (sym (add-one i)) (sym
+          (given .end .0 - (i + 1)) l) (sym (add-one i)) (sym
           (c .before .before .erase .ensures)),
     )
 
@@ -56,10 +56,10 @@ same-length c = search needs
 returns : tie.Need-returns Inv-loop μ-loop
 unfolding erasesIn
 returns c =
-    let given = c .before .before .before .args in
-    let z : given .count - c .before .loop .i ≡ 0 = omega arith in
-    sym (c .before .loop .inv .2 ∙ ap (λ (k : ℕ). erasesIn (given .g) (c .before .loop .i) k
-    (local (c .before .loop .area) (c .before .loop .r))) z)
+    let given = c .before .before .before .before .args in
+    let z : given .end .0 - c .before .before .loop .i ≡ 0 = omega arith in
+    sym (c .before .before .loop .inv .2 ∙ ap (λ (k : ℕ). erasesIn (given .g) (c .before .before .loop .i) k
+    (local (c .before .before .loop .area) (c .before .before .loop .r))) z)
 
 pub erase-sectors-spec : {M : Type 1} → statement M
 erase-sectors-spec =

@@ -1,19 +1,24 @@
 use mathlib.Core.Path.{ap, _∙_}
+use native.Mathlib.Omega.{arith}
+use Rattle.flash.specs.declared.Sector.{Sector}
 use Rattle.flash.specs.Build.{Area, trailerSector}
 use Rattle.flash.specs.Base.{base, build}
-use Rattle.writes.specs.InArea.{magicIn}
+use Rattle.flash.specs.Operations.{local}
+use Rattle.writes.specs.InArea.{okIn, magicIn}
 use borrow.Author.Needs.{needs}
 use Rattle.lines.proofs.ok_and_magic.Statement.{statement}
 use Rattle.lines.proofs.ok_and_magic.Tie as tie
 
-sub-last : tie.Need-sub-last
-sub-last c = search needs
+last-sector-requires : tie.Need-last-sector-requires
+last-sector-requires c κs = search needs
 
 write-ok-requires : tie.Need-write-ok-requires
-write-ok-requires c κs = search needs
+write-ok-requires c κs =
+    (c .before .before .before .pre, omega (arith, ap (λ (i : Sector). i .0) (c .before .last-sector .ensures), c .before .before .before .pre))
 
 write-magic-requires : tie.Need-write-magic-requires
-write-magic-requires c κs = search needs
+write-magic-requires c κs =
+    (c .before .before .before .before .before .before .before .pre, omega (arith, ap (λ (i : Sector). i .0) (c .before .before .before .before .before .last-sector .ensures), c .before .before .before .before .before .before .before .pre))
 
 same-length : tie.Need-same-length
 same-length c = search needs
@@ -22,10 +27,12 @@ returns : tie.Need-returns
 unfolding base
 returns c =
     let given = c .before .before .before .before .before .before .before .before .before .before .args in
+    let last = c .before .before .before .before .before .before .before .before .last-sector .ensures in
     c .before .before .write-magic .ensures
-    ∙ ap (magicIn (given .g) (trailerSector (build (given .g)) Area.slot1))
-    (c .before .before .before .before .before .before .write-ok .ensures)
+    ∙ ap (λ (i : Sector). magicIn (given .g) i (local _ (c .before .before .before .before .before .before .write-ok .result))) last
+    ∙ ap (magicIn (given .g) (trailerSector (build (given .g)) Area.slot1)) (c .before .before .before .before .before .before .write-ok .ensures
+    ∙ ap (λ (i : Sector). okIn (given .g) i (given .lasting) (local (given .slot1 .now) (given .run))) last)
 
 pub ok-and-magic-spec : {M : Type 1} → statement M
 ok-and-magic-spec =
-    tie.close (tie.spec sub-last write-ok-requires write-magic-requires same-length returns)
+    tie.close (tie.spec last-sector-requires write-ok-requires write-magic-requires same-length returns)

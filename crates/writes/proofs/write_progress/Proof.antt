@@ -1,8 +1,8 @@
-use mathlib.Core.Path.{_≡_, ap, _∙_}
+use mathlib.Core.Path.{_≡_, ap, ap₂, _∙_}
 use Prim.Native.Nat.{_+_, _*_, _-_, _%_}
 use native.Mathlib.Omega.{arith}
+use Rattle.flash.specs.declared.Sector.{Sector}
 use Rattle.flash.specs.declared.Offset.{Offset}
-use Rattle.flash.specs.Geometry.{sectorNo}
 use Rattle.flash.specs.Base.{base}
 use Rattle.flash.specs.Operations.{local}
 use Rattle.marks.specs.PlaceLaws.{marks-fit}
@@ -20,8 +20,8 @@ add-value c = search needs
 cast-value : tie.Need-cast-value
 cast-value c = search needs
 
-sub-t7 : tie.Need-sub-t7
-sub-t7 c = search needs
+last-sector-requires : tie.Need-last-sector-requires
+last-sector-requires c κs = search needs
 
 write-mark-requires : tie.Need-write-mark-requires
 unfolding base
@@ -34,7 +34,7 @@ write-mark-requires c κs =
     (c .before .before .before .before .pre .0) (omega arith) in (
       c .before .before .before .before .pre .0,
       (
-        omega arith,
+        omega (arith, ap (λ (i : Sector). i .0) (c .before .last-sector .ensures), c .before .before .before .before .pre .0 .many),
         omega
             (arith, e, f .all, f .before, c .before .before .before .before .pre .0 .room),
       ),
@@ -48,8 +48,8 @@ unfolding base
 returns c =
     let given = c .before .before .before .before .before .before .before .args in
     c .before .before .write-mark .ensures
-    ∙ ap (λ (o : Offset). markIn (given .g) (sectorNo (given .g .sectors - 1)) o (1 + given .k % 3)
-    (local (given .slot0 .now) (given .run))) (c .before .before .before .before .before .mark-place .ensures)
+    ∙ ap₂ (λ (i : Sector) (o : Offset). markIn (given .g) i o (1 + given .k % 3) (local (given .slot0 .now) (given .run)))
+    (c .before .before .before .before .last-sector .ensures) (c .before .before .before .before .before .mark-place .ensures)
 
 pub write-progress-spec : {M : Type 1} → statement M
 write-progress-spec =
@@ -58,7 +58,7 @@ write-progress-spec =
     mark-place-requires
     add-value
     cast-value
-    sub-t7
+    last-sector-requires
     write-mark-requires
     same-length
     returns)
