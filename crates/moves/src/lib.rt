@@ -1,6 +1,6 @@
 // The data exchange: the moves, each with its mark, and copy done.
 ghost use mathlib.Core.Path.{_≡_};
-ghost use Prim.Native.Nat.{_*_, _-_, _%_, _≤_, _<_, _/_};
+ghost use Prim.Native.Nat.{_*_, _-_, _%_, _≤_, _<_};
 ghost use Rattle.flash.specs.Build.{Area};
 ghost use Rattle.flash.specs.Base.{build, allMoves};
 ghost use Rattle.flash.specs.Small.{Small};
@@ -9,7 +9,7 @@ ghost use lib.ListN.{drop};
 ghost use Rattle.trailer.specs.Trailer.{copyDoneAt};
 ghost use Rattle.plan.specs.Lists.{mark, progress, moveOps, dataOps};
 ghost use Rattle.writes.specs.Steps.{moveIn};
-ghost use Rattle.moves.specs.Moves.{moveOf};
+ghost use Rattle.moves.specs.Moves.{markedSector, moveOf};
 ghost use Rattle.moves.specs.Areas.{state};
 use flash::Geometry;
 use flash::Run;
@@ -24,7 +24,18 @@ fn move_sector(g: Geometry, src: &[u8], from: Sector, dst: &mut [u8], to: Sector
     let erased = operations::erase(g, dst, to, run);
     let at = flash::place_of(g, flash::first_unit(g, from));
     let u = flash::first_unit(g, to);
-    operations::write_units(g, src, at, dst, u, g.sector / g.unit, erased)
+    let units = flash::units_per_sector(g);
+    operations::write_units(g, src, at, dst, u, units, erased)
+}
+
+// The sector that mark number k is of.
+fn marked_sector(g: Geometry, k: usize) -> Sector
+    requires { ⌜ Small g ⌝ }
+    requires { ⌜ k < 3 * g .sectors ⌝ }
+    ensures { λ r. ⌜ r ≡ markedSector g k ⌝ }
+{
+    let last = flash::last_sector(g);
+    Sector(last.0 - k / 3)
 }
 
 // The move whose mark has number k, without its mark.
@@ -39,18 +50,18 @@ fn one_move(
     requires { ⌜ Small g ⌝ }
     requires { ⌜ k < 3 * g .sectors ⌝ }
     ensures { λ r. ⌜ state (now (slot0 .exit)) (now (slot1 .exit)) (now (scratch .exit)) r
-        ≡ steps (build g) (moveOps (build g) (moveOf (g .sectors - 1 - k / 3) (k % 3)))
+        ≡ steps (build g) (moveOps (build g) (moveOf (markedSector g k) (k % 3)))
         (state (now (slot0 .entry)) (now (slot1 .entry)) (now (scratch .entry)) run) ⌝ }
 {
-    let i = g.sectors - 1 - k / 3;
+    let i = marked_sector(g, k);
     let j = k % 3;
     if j == 0 {
-        return move_sector(g, slot1, Sector(i), scratch, Sector(0), run);
+        return move_sector(g, slot1, i, scratch, Sector(0), run);
     }
     if j == 1 {
-        return move_sector(g, slot0, Sector(i), slot1, Sector(i), run);
+        return move_sector(g, slot0, i, slot1, i, run);
     }
-    move_sector(g, scratch, Sector(0), slot0, Sector(i), run)
+    move_sector(g, scratch, Sector(0), slot0, i, run)
 }
 
 fn marked_move(
@@ -64,7 +75,7 @@ fn marked_move(
     requires { ⌜ Small g ⌝ }
     requires { ⌜ k < 3 * g .sectors ⌝ }
     ensures { λ r. ⌜ state (now (slot0 .exit)) (now (slot1 .exit)) (now (scratch .exit)) r
-        ≡ step (build g) (progress (build g) k) (steps (build g) (moveOps (build g) (moveOf (g .sectors - 1 - k / 3) (k % 3)))
+        ≡ step (build g) (progress (build g) k) (steps (build g) (moveOps (build g) (moveOf (markedSector g k) (k % 3)))
         (state (now (slot0 .entry)) (now (slot1 .entry)) (now (scratch .entry)) run)) ⌝ }
 {
     let moved = one_move(g, k, slot0, slot1, scratch, run);
@@ -113,5 +124,6 @@ pub fn data_exchange(
 {
     let moved = moves_from(g, c, slot0, slot1, scratch, run);
     let at = marks::copy_done::done_place(g);
-    writes::write_mark(g, slot0, Sector(g.sectors - 1), at, 1, moved)
+    let last = flash::last_sector(g);
+    writes::write_mark(g, slot0, last, at, 1, moved)
 }

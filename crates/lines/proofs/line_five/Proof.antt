@@ -33,7 +33,7 @@ returns c =
     let last = c .before .before .before .before .before .before .before .before .before .before .before .before .last-sector .ensures in
     let i = trailerSector (build (given .g)) Area.slot0 in
     c .before .before .write-magic .ensures
-    ∙ ap (λ (i : Sector). magicIn (given .g) i (local _ (c .before .before .before .before .before .before .three-marks .result))) last
+    ∙ ap (λ (i : Sector). magicIn (given .g) i (local (c .before .before .before .before .before .before .three-marks .last .1 .0) (c .before .before .before .before .before .before .three-marks .result))) last
     ∙ ap (magicIn (given .g) i) (c .before .before .before .before .before .before .three-marks .ensures ∙ ap (threeIn (given .g) i) (c .before .before .before .before .before .before .before .before .before .before .write-ok .ensures
     ∙ ap (λ (i : Sector). okIn (given .g) i (given .lasting) (local (given .slot0 .now) (given .run))) last))
 

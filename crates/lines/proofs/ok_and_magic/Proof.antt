@@ -29,7 +29,7 @@ returns c =
     let given = c .before .before .before .before .before .before .before .before .before .before .args in
     let last = c .before .before .before .before .before .before .before .before .last-sector .ensures in
     c .before .before .write-magic .ensures
-    ∙ ap (λ (i : Sector). magicIn (given .g) i (local _ (c .before .before .before .before .before .before .write-ok .result))) last
+    ∙ ap (λ (i : Sector). magicIn (given .g) i (local (c .before .before .before .before .before .before .write-ok .last .1 .0) (c .before .before .before .before .before .before .write-ok .result))) last
     ∙ ap (magicIn (given .g) (trailerSector (build (given .g)) Area.slot1)) (c .before .before .before .before .before .before .write-ok .ensures
     ∙ ap (λ (i : Sector). okIn (given .g) i (given .lasting) (local (given .slot1 .now) (given .run))) last)
 
