@@ -30,9 +30,9 @@ fn lines_three_to_six(
         ≡ steps (build g) (linesThreeToSix (build g) lasting)
         (state (now (slot0 .entry)) (now (slot1 .entry)) (now (scratch .entry)) run) ⌝ }
 {
-    let last = g.sectors - 1;
-    let three = operations::erase(g, slot1, Sector(last), run);
-    let four = operations::erase(g, slot0, Sector(last), three);
+    let last = flash::last_sector(g);
+    let three = operations::erase(g, slot1, last, run);
+    let four = operations::erase(g, slot0, last, three);
     let five = lines::line_five(g, slot0, lasting, four);
     operations::erase(g, scratch, Sector(1), five)
 }
@@ -77,10 +77,10 @@ fn clear_out(g: Geometry, slot0: &mut [u8], slot1: &mut [u8], unset: bool, run: 
     ensures { λ r. ⌜ ((x2 : List ℕ) → state (now (slot0 .exit)) (now (slot1 .exit)) x2 r
         ≡ steps (build g) (clearOut (build g) unset) (state (now (slot0 .entry)) (now (slot1 .entry)) x2 run)) ⌝ }
 {
-    let last = g.sectors - 1;
+    let last = flash::last_sector(g);
     let sectors = lines::erase_sectors(g, slot1, last, run);
-    let ok = writes::write_ok(g, slot0, Sector(last), unset, sectors);
-    operations::erase(g, slot1, Sector(last), ok)
+    let ok = writes::write_ok(g, slot0, last, unset, sectors);
+    operations::erase(g, slot1, last, ok)
 }
 
 // Whether slot 0's image ok is Unset, for the clear-out.

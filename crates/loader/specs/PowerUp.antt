@@ -1,11 +1,12 @@
 -- Document 01, "What a power-up does": D, the answer, the plain start and the full start.
 use mathlib.Core.List.{List}
 use mathlib.Core.Bool.{Bool, true, false}
-use Prim.Native.Nat.{ℕ, _*_, _-_}
+use Prim.Native.Nat.{ℕ, _-_}
 use lib.ListN.{take}
 use Rattle.spans.specs.Choice.{pick}
 use Rattle.flash.specs.declared.Geometry.{Geometry}
 use Rattle.flash.specs.declared.End.{End}
+use Rattle.flash.specs.Geometry.{dataBytes}
 use Rattle.flash.specs.Build.{Flash, valid}
 use Rattle.flash.specs.Base.{build}
 use Rattle.flash.specs.Operations.{State, start, steps}
@@ -43,7 +44,7 @@ started checked (Header.Good header body records) v = pick checked (judgedStart 
 
 -- "against the slot's m·s data bytes"
 unfoldable pub dataOf : Geometry → List ℕ → List ℕ
-dataOf g xs = take ((g .sectors - 1) * g .sector) xs
+dataOf g xs = take (dataBytes g .0) xs
 
 unfoldable pub bootOf : Bool → Geometry → Flash → Outcome
 bootOf checked g f = started checked (head (dataOf g (f .in0))) (check (dataOf g (f .in0)))

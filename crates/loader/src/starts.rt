@@ -36,7 +36,8 @@ fn data_of(g: Geometry, slot: &[u8]) -> &[u8]
     requires { ⌜ Small g ⌝ }
     ensures { λ r. ⌜ now r ≡ dataOf g (now (slot .entry)) ⌝ }
 {
-    let end = spans::least((g.sectors - 1) * g.sector, slot.len());
+    let bytes = flash::data_bytes(g);
+    let end = spans::least(bytes.0, slot.len());
     &slot[..end]
 }
 

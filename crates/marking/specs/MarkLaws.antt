@@ -2,7 +2,7 @@
 use mathlib.Core.Path.{_≡_, refl, sym, ap, _∙_}
 use mathlib.Core.List.{List, [], _++_}
 use mathlib.Core.Bool.{Bool, true, false}
-use Prim.Native.Nat.{ℕ, _+_, _-_, _/_, _≤_}
+use Prim.Native.Nat.{ℕ, _+_, _-_, _≤_}
 use native.Mathlib.Omega.{arith}
 use lib.ListN.{length, length-append}
 use Rattle.spans.specs.Choice.{pick}
@@ -14,7 +14,7 @@ use Rattle.flash.specs.Operations.{Op, State, local, going, back, start, steps}
 use Rattle.flash.specs.OperationLaws.{steps-left}
 use Rattle.plan.specs.Lists.{okOps, magicOps}
 use Rattle.plan.specs.Lengths.{one-if, length-ok, length-magic}
-use Rattle.trailer.specs.Trailer.{trailer}
+use Rattle.trailer.specs.Trailer.{trailer, magicUnits}
 use Rattle.plan.specs.declared.Course.{Course}
 use Rattle.plan.specs.Asked.{flashOf}
 use Rattle.moves.specs.Areas.{state}
@@ -27,7 +27,7 @@ use Rattle.marking.specs.Marking.{MarkResult, markResult, refusedMark, e
 use Rattle.marking.specs.MarkResults.{refusing-mark}
 use Rattle.marking.specs.Standing.{standingOf, byStanding, standing-says}
 
-pub length-marking : (g : Geometry) (p : Bool) → length (okOps (build g) slot1 p ++ magicOps (build g) slot1) ≡ one-if p + 16 / g .unit
+pub length-marking : (g : Geometry) (p : Bool) → length (okOps (build g) slot1 p ++ magicOps (build g) slot1) ≡ one-if p + magicUnits g .0
 unfolding base
 length-marking g p = simp (length-append, length-ok, length-magic)
 

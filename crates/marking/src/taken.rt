@@ -13,10 +13,10 @@ ghost use Rattle.marking.specs.Standing.{standingOf};
 use answers::Ending;
 use answers::Marked;
 use answers::Refusal;
+use flash::Bytes;
 use flash::End;
 use flash::Geometry;
 use flash::Run;
-use flash::Sector;
 use plan::Course;
 
 pub fn refuse(refusal: Refusal) -> Marked
@@ -101,7 +101,8 @@ fn mark_writes(g: Geometry, permanent: bool) -> u64
     requires { ⌜ Small g ⌝ }
     ensures { λ r. ⌜ r ≡ length (okOps (build g) Area.slot1 permanent ++ magicOps (build g) Area.slot1) ⌝ }
 {
-    let magic = (16 / g.unit) as u64;
+    let units = flash::units_in(g, Bytes(16));
+    let magic = units.0 as u64;
     if permanent { 1 + magic } else { magic }
 }
 
@@ -155,7 +156,8 @@ fn confirm_free(g: Geometry, slot0: &mut [u8]) -> Marked
             left: 1,
             end: End::Going,
         };
-        let run = writes::write_ok(g, slot0, Sector(g.sectors - 1), true, start);
+        let last = flash::last_sector(g);
+        let run = writes::write_ok(g, slot0, last, true, start);
         written(1, run)
     } else {
         refuse(Refusal::Needs)

@@ -1,20 +1,28 @@
+use mathlib.Core.Path.{ap, _∙_}
+use native.Mathlib.Omega.{arith}
+use Rattle.flash.specs.declared.Sector.{Sector}
 use Rattle.flash.specs.Base.{base}
+use Rattle.flash.specs.Operations.{local, eraseIn}
+use Rattle.writes.specs.InArea.{okIn, erasesIn}
 use Rattle.moves.specs.Areas.{cleared}
 use borrow.Author.Needs.{needs}
 use Rattle.carry.proofs.clear_out.Statement.{statement}
 use Rattle.carry.proofs.clear_out.Tie as tie
 
-sub-last : tie.Need-sub-last
-sub-last c = search needs
+last-sector-requires : tie.Need-last-sector-requires
+last-sector-requires c κs = search needs
 
 erase-sectors-requires : tie.Need-erase-sectors-requires
-erase-sectors-requires c κs = search needs
+erase-sectors-requires c κs =
+    (c .pre, omega (arith, ap (λ (i : Sector). i .0) (c .last-sector .ensures), c .pre))
 
 write-ok-requires : tie.Need-write-ok-requires
-write-ok-requires c κs = search needs
+write-ok-requires c κs =
+    (c .pre, omega (arith, ap (λ (i : Sector). i .0) (c .last-sector .ensures), c .pre))
 
 erase-requires : tie.Need-erase-requires
-erase-requires c κs = search needs
+erase-requires c κs =
+    (c .pre, omega (arith, ap (λ (i : Sector). i .0) (c .last-sector .ensures), c .pre))
 
 same-length : tie.Need-same-length
 same-length c = search needs
@@ -25,17 +33,20 @@ same-length-2 c = search needs
 returns : tie.Need-returns
 unfolding base
 returns c =
-    let given =
-    c .before .before .before .before .before .before .before .before .before .before .before .before .before .before .before .args in
+    let given = c .args in
+    let last = c .last-sector .ensures in
+    let erased = c .erase-sectors in
+    let ok = c .write-ok in
     λ x2. cleared (given .g) (given .unset) (given .slot0 .now) (given .slot1 .now) x2 (given .run) _ _
-    (c .before .before .before .before .before .before .before .before .before .before .erase-sectors .ensures) _ _
-    (c .before .before .before .before .before .before .write-ok .ensures) _ _ (c .before .before .erase .ensures)
+    (erased .ensures ∙ ap (λ (i : Sector). erasesIn (given .g) 0 (i .0) (local (given .slot1 .now) (given .run))) last) _ _
+    (ok .ensures ∙ ap (λ (i : Sector). okIn (given .g) i (given .unset) (local (given .slot0 .now) (erased .result))) last) _ _
+    (c .erase .ensures ∙ ap (λ (i : Sector). eraseIn (given .g) i (local (erased .last .1 .0) (ok .result))) last)
 
 pub clear-out-spec : {M : Type 1} → statement M
 clear-out-spec =
     tie.close
     (tie.spec
-    sub-last
+    last-sector-requires
     erase-sectors-requires
     write-ok-requires
     erase-requires

@@ -1,17 +1,23 @@
+use mathlib.Core.Path.{ap, _∙_}
+use native.Mathlib.Omega.{arith}
+use Rattle.flash.specs.declared.Sector.{Sector}
 use Rattle.flash.specs.Base.{base}
+use Rattle.flash.specs.Operations.{local, eraseIn}
 use Rattle.moves.specs.Areas.{lines-three-to-six}
 use borrow.Author.Needs.{needs}
 use Rattle.carry.proofs.lines_three_to_six.Statement.{statement}
 use Rattle.carry.proofs.lines_three_to_six.Tie as tie
 
-sub-last : tie.Need-sub-last
-sub-last c = search needs
+last-sector-requires : tie.Need-last-sector-requires
+last-sector-requires c κs = search needs
 
 erase-requires : tie.Need-erase-requires
-erase-requires c κs = search needs
+erase-requires c κs =
+    (c .pre, omega (arith, ap (λ (i : Sector). i .0) (c .last-sector .ensures), c .pre))
 
 erase-requires-2 : tie.Need-erase-requires-2
-erase-requires-2 c κs = search needs
+erase-requires-2 c κs =
+    (c .pre, omega (arith, ap (λ (i : Sector). i .0) (c .last-sector .ensures), c .pre))
 
 line-five-requires : tie.Need-line-five-requires
 line-five-requires c κs = search needs
@@ -31,19 +37,19 @@ same-length-3 c = search needs
 returns : tie.Need-returns
 unfolding base
 returns c =
-    let given =
-    c .before .before .before .before .before .before .before .before .before .before .before .before .before .before .before .before .before .before .before .before .args in
-    lines-three-to-six (given .g) (given .lasting) (given .slot0 .now) (given .slot1 .now) (given .scratch .now)
-    (given .run) _ _
-    (c .before .before .before .before .before .before .before .before .before .before .before .before .before .before .erase .ensures) _ _
-    (c .before .before .before .before .before .before .before .before .before .before .erase2 .ensures) _ _
-    (c .before .before .before .before .before .before .line-five .ensures) _ _ (c .before .before .erase3 .ensures)
+    let given = c .args in
+    let last = c .last-sector .ensures in
+    let three = c .erase in
+    lines-three-to-six (given .g) (given .lasting) (given .slot0 .now) (given .slot1 .now) (given .scratch .now) (given .run) _ _
+    (three .ensures ∙ ap (λ (i : Sector). eraseIn (given .g) i (local (given .slot1 .now) (given .run))) last) _ _
+    (c .erase2 .ensures ∙ ap (λ (i : Sector). eraseIn (given .g) i (local (given .slot0 .now) (three .result))) last) _ _
+    (c .line-five .ensures) _ _ (c .erase3 .ensures)
 
 pub lines-three-to-six-spec : {M : Type 1} → statement M
 lines-three-to-six-spec =
     tie.close
     (tie.spec
-    sub-last
+    last-sector-requires
     erase-requires
     erase-requires-2
     line-five-requires
