@@ -8,7 +8,7 @@ use lib.ListN.{length, take}
 use Rattle.spans.specs.Choice.{pick}
 use Rattle.spans.specs.Laws.{part-put, part-put-before}
 use Rattle.flash.specs.declared.Geometry.{Geometry}
-use Rattle.flash.specs.Build.{slot0, slot1, scratch, Build, Flash}
+use Rattle.flash.specs.Build.{slot0, slot1, scratch, Build, Flash, lentBytes}
 use Rattle.flash.specs.Base.{build}
 use Rattle.trailer.specs.declared.Mark.{Mark}
 use Rattle.trailer.specs.Trailer.{trailer, okAt, copyDoneAt, magicOf, isGood, noMagic, markOf, markBytes, isUnset, hasValue}
@@ -94,8 +94,8 @@ pub confirmed-stays : (check : List ℕ → Bool) {g : Geometry} {f f' : Flash} 
     → a .ending ≡ Ending.Written → decide check (build g) f' ≡ Revert → ⊥
 unfolding decide judged
 confirmed-stays check {g} {f} {f'} q w h =
-    go (check (take (build g .lent * build g .sector) (f' .in1))) (askedBy g f)
-    (ap (judged (check (take (build g .lent * build g .sector) (f' .in1)))) (sym (confirmed-next q w)) ∙ h)
+    go (check (take (lentBytes (build g) .0) (f' .in1))) (askedBy g f)
+    (ap (judged (check (take (lentBytes (build g) .0) (f' .in1)))) (sym (confirmed-next q w)) ∙ h)
   where
     go : (b : Bool) (c : Course) → judged b (unreverted c) ≡ Revert → ⊥
     go b Damage h = let z : _≡_ {A = ℕ} 0 1 = cc in omega arith

@@ -11,7 +11,7 @@ use Rattle.flash.specs.Build.{Area, Build, Flash, area, with-area, trailerSecto
 use Rattle.flash.specs.Operations.{Op, store, apply, runAll}
 use Rattle.flash.specs.AreaLaws.{with-own, store-store}
 use Rattle.trailer.specs.declared.Magic.{Magic}
-use Rattle.trailer.specs.Trailer.{trailer, magicAt, okAt, magicBytes, magicOf, noMagic, markOf, markBytes, isUnset}
+use Rattle.trailer.specs.Trailer.{trailer, magicAt, okAt, magicBytes, magicOf, noMagic, markOf, markBytes, isUnset, magicUnits}
 use Rattle.plan.specs.Lists.{trailerUnit, mark, okOps, magicOps}
 use Rattle.recovery.specs.All.{All, none, one, all-append}
 use Rattle.recovery.specs.Windows.{Hidden, hidden-run}
@@ -51,7 +51,7 @@ module _ {g : Build} (geo : Geo g) (a : Area) where
   run-magic : (f : Flash) → runAll g (magicOps g a) f ≡ store a (placeIn g a (magicAt g)) magicBytes f
   unfolding magicOps magicBytes
   run-magic f =
-      writes-all g a (trailerUnit g a (magicAt g)) (16 / g .unit) magicBytes f (sym (magic-units geo))
+      writes-all g a (trailerUnit g a (magicAt g)) (magicUnits (geometry g) .0) magicBytes f (sym (magic-units geo))
       ∙ ap (λ (x : ℕ). store a x magicBytes f) (unit-back geo a (magicAt g) (magic-unit geo))
 
   mark-ok : (f : Flash) → apply g (mark g a (okAt g) 1) f ≡ store a (placeIn g a (okAt g)) (markBytes g 1) f

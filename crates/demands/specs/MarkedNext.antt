@@ -9,6 +9,7 @@ use lib.Dec.{eqb, leb}
 use Rattle.spans.specs.Bytes.{put}
 use Rattle.spans.specs.Choice.{pick, both}
 use Rattle.spans.specs.Laws.{length-put, take-put-before}
+use Rattle.flash.specs.Geometry.{dataBytes}
 use Rattle.flash.specs.declared.Geometry.{Geometry}
 use Rattle.flash.specs.Build.{Area, slot0, slot1, scratch, Build, Flash, area}
 use Rattle.flash.specs.Base.{base, build}
@@ -124,12 +125,12 @@ length-marked g false xs = length-put xs (placeIn g slot1 (magicAt g)) magicByte
 data-marked : (g : Geometry) (p : Bool) (xs : List ℕ) → dataOf g (magicPut (build g) slot1 (okPut (build g) slot1 p xs)) ≡ dataOf g xs
 unfolding magicPut okPut dataOf base
 data-marked g p xs =
-    take-put-before (okPut (build g) slot1 p xs) ((g .sectors - 1) * g .sector) (placeIn (build g) slot1 (magicAt (build g))) magicBytes
+    take-put-before (okPut (build g) slot1 p xs) (dataBytes g .0) (placeIn (build g) slot1 (magicAt (build g))) magicBytes
     (omega arith) ∙ before-ok p
   where
-    before-ok : (p : Bool) → take ((g .sectors - 1) * g .sector) (okPut (build g) slot1 p xs) ≡ take ((g .sectors - 1) * g .sector) xs
+    before-ok : (p : Bool) → take (dataBytes g .0) (okPut (build g) slot1 p xs) ≡ take (dataBytes g .0) xs
     before-ok true =
-        take-put-before xs ((g .sectors - 1) * g .sector) (placeIn (build g) slot1 (okAt (build g))) (markBytes (build g) 1) (omega arith)
+        take-put-before xs (dataBytes g .0) (placeIn (build g) slot1 (okAt (build g))) (markBytes (build g) 1) (omega arith)
     before-ok false = refl
 
 -- so an exchange is due if the image is accepted, and demand 3 speaks of it

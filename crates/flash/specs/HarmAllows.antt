@@ -15,8 +15,8 @@ use Rattle.spans.specs.Choice.{every}
 use Rattle.spans.specs.Laws.{part-put, take-put-before, drop-put-after}
 use Rattle.flash.specs.declared.Sector.{Sector}
 use Rattle.flash.specs.declared.Unit.{Unit}
-use Rattle.flash.specs.Geometry.{unitNo, startOf, placeOf, unitsPerSector, nextUnit}
-use Rattle.flash.specs.Build.{Area, slot0, slot1, scratch, Build, geometry, dataSectors, Flash, area, sameArea, asked, fits, valid}
+use Rattle.flash.specs.Geometry.{unitNo, startOf, placeOf, unitsPerSector, nextUnit, firstUnit, bytesIn, slotBytes, dataBytes}
+use Rattle.flash.specs.Build.{Area, slot0, slot1, scratch, Build, geometry, dataSectors, Flash, area, sameArea, asked, fits, valid, trailerSector, scratchBytes}
 use Rattle.flash.specs.Base.{base}
 use Rattle.flash.specs.Operations.{Op, erase, write, copy, store, apply}
 use Rattle.flash.specs.Harm.{Torn, as-before, half-erased, half-written, half-copied, Cut, here, later}
@@ -64,8 +64,8 @@ stored g op bytes f h t =
 pub record Sizes (g : Build) (f : Flash) : Type 0 where
   pub positive : 0 < g .sector
   pub one : 0 < g .unit
-  pub whole : (k : ℕ) → k * unitsPerSector (geometry g) * g .unit ≡ k * g .sector
-  pub long : (a : Area) → length (area a f) ≡ dataSectors g a * g .sector + g .sector
+  pub whole : (k : ℕ) → k * unitsPerSector (geometry g) .0 * g .unit ≡ k * g .sector
+  pub long : (a : Area) → length (area a f) ≡ startOf (geometry g) (trailerSector g a) .0 + g .sector
 
 -- each of the tests of a list that passes all of them
 test : (k : ℕ) (bs : List Bool) → every bs ≡ true → getD bs k true ≡ true
@@ -82,20 +82,20 @@ sizes g f h =
     λ k. test k (asked g (length (f .in0)) (length (f .in1)) (length (f .in2))) h in
     let two : 2 ≤ g .sectors = leb-true 2 (g .sectors) (nth 4) in
     let n : g .sectors ≡ suc (g .sectors - 1) = omega arith in
-    let e : g .sectors * g .sector ≡ (g .sectors - 1) * g .sector + g .sector =
+    let e : slotBytes (geometry g) .0 ≡ dataBytes (geometry g) .0 + g .sector =
     ap (λ (x : ℕ). x * g .sector) n ∙ omega arith in
     record {
       positive = omega (arith, leb-true (384 * g .unit + 32) (g .sector) (nth 2));
       one = each-unit (λ w. 0 < w) (omega arith) (omega arith) (omega arith) (omega arith) (g .unit) (nth 0);
-      whole = λ k. mul-assoc k (unitsPerSector (geometry g)) (g .unit) ∙ ap (λ (x : ℕ). k * x) (sector-back (nth 1));
+      whole = λ k. mul-assoc k (unitsPerSector (geometry g) .0) (g .unit) ∙ ap (λ (x : ℕ). k * x) (sector-back (nth 1));
       long = elim [
-        | slot0 ↦ eqb-true (length (f .in0)) (g .sectors * g .sector) (nth 6) ∙ e
-        | slot1 ↦ eqb-true (length (f .in1)) (g .sectors * g .sector) (nth 7) ∙ e
-        | scratch ↦ eqb-true (length (f .in2)) (suc (g .spare) * g .sector) (nth 8) ∙ omega arith
+        | slot0 ↦ eqb-true (length (f .in0)) (slotBytes (geometry g) .0) (nth 6) ∙ e
+        | slot1 ↦ eqb-true (length (f .in1)) (slotBytes (geometry g) .0) (nth 7) ∙ e
+        | scratch ↦ eqb-true (length (f .in2)) (scratchBytes g .0) (nth 8) ∙ omega arith
       ];
     }
   where
-    sector-back : eqb (g .sector % g .unit) 0 ≡ true → unitsPerSector (geometry g) * g .unit ≡ g .sector
+    sector-back : eqb (g .sector % g .unit) 0 ≡ true → bytesIn (geometry g) (unitsPerSector (geometry g)) .0 ≡ g .sector
     sector-back e = omega (arith, eqb-true (g .sector % g .unit) 0 e, div-add-mod' (g .sector) (g .unit))
 
 module _ (g : Build) (f : Flash) (taken : valid g f ≡ true) where
@@ -107,7 +107,7 @@ module _ (g : Build) (f : Flash) (taken : valid g f ≡ true) where
       lt-of-mul-lt-mul-right (g .sector) (omega (arith, z .positive, z .long a))
 
   unit-in-data : (a : Area) (u : Unit) → placeOf (geometry g) u .0 + g .unit + g .sector ≤ length (area a f)
-      → u .0 < dataSectors g a * unitsPerSector (geometry g)
+      → u .0 < firstUnit (geometry g) (trailerSector g a) .0
   unit-in-data a u h =
       let z = sizes g f taken in
       lt-of-mul-lt-mul-right (g .unit) (omega (arith, z .one, z .long a, z .whole (dataSectors g a)))
@@ -118,7 +118,7 @@ module _ (g : Build) (f : Flash) (taken : valid g f ≡ true) where
       omega (arith, z .positive, z .long a, mul-le-mul-right (g .sector) q)
 
   unit-in-trailer : (a : Area) (u : Unit) → length (area a f) ≤ placeOf (geometry g) u .0 + g .sector
-      → u .0 < dataSectors g a * unitsPerSector (geometry g) → ⊥
+      → u .0 < firstUnit (geometry g) (trailerSector g a) .0 → ⊥
   unit-in-trailer a u h q =
       let z = sizes g f taken in
       omega (arith, z .one, z .long a, mul-le-mul-right (g .unit) q, z .whole (dataSectors g a))

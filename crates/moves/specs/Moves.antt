@@ -26,7 +26,8 @@ unfolding allMoves threeMoves moveOf
 by-number zero t h = absurd (omega arith)
 by-number (suc i) zero h = let e : i ≡ suc i - 1 - 0 = omega arith in ap (λ (k : ℕ). moveOf (sectorNo k) 0 ∷ drop 1 (allMoves (suc i))) e
 by-number (suc i) (suc zero) h = let e : i ≡ suc i - 1 - 0 = omega arith in ap (λ (k : ℕ). moveOf (sectorNo k) 1 ∷ drop 2 (allMoves (suc i))) e
-by-number (suc i) (suc (suc zero)) h = let e : i ≡ suc i - 1 - 0 = omega arith in ap (λ (k : ℕ). moveOf (sectorNo k) 2 ∷ drop 3 (allMoves (suc i))) e
+by-number (suc i) (suc (suc zero)) h =
+    let e : i ≡ suc i - 1 - 0 = omega arith in ap (λ (k : ℕ). moveOf (sectorNo k) 2 ∷ drop 3 (allMoves (suc i))) e
 by-number (suc i) (suc (suc (suc t))) h =
     let three : suc (suc (suc t)) ≡ t + 3 = omega arith in
     let d : suc (suc (suc t)) / 3 ≡ t / 3 + 1 = ap (λ (k : ℕ). k / 3) three ∙ add-div-right t (omega arith) in

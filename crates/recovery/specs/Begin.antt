@@ -3,18 +3,18 @@ use mathlib.Core.Path.{_≡_, refl, sym, ap, _∙_}
 use mathlib.Core.Logic.{_⊎_, inl, inr}
 use mathlib.Core.List.{List, _++_}
 use mathlib.Core.Bool.{Bool, true, false}
-use Prim.Native.Nat.{ℕ, zero, suc, _+_, _*_, _-_, _/_, _<_}
+use Prim.Native.Nat.{ℕ, zero, suc, _+_, _-_, _<_}
 use native.Mathlib.Omega.{arith}
 use lib.ListN.{length, take, drop, length-take, length-drop}
 use Rattle.spans.specs.Bytes.{part, put, blank}
 use Rattle.spans.specs.Laws.{length-blank, part-blank, part-put, part-put-before, part-put-after, length-put}
 use Rattle.flash.specs.declared.Unit.{Unit}
-use Rattle.flash.specs.Geometry.{nextUnit}
-use Rattle.flash.specs.Build.{Area, scratch, Build, Flash, area, dataSectors}
+use Rattle.flash.specs.Geometry.{nextUnit, unitCount, startOf, placeOf, bytesIn}
+use Rattle.flash.specs.Build.{Area, scratch, Build, Flash, area, geometry, trailerSector}
 use Rattle.flash.specs.Operations.{Op, write, store, apply, runAll}
 use Rattle.flash.specs.Harm.{Cut, here, later}
 use Rattle.trailer.specs.declared.Mark.{Mark}
-use Rattle.trailer.specs.Trailer.{magicBytes, trailer, magicAt, okAt, magicOf, markOf, markBytes, isGood, isUnset, hasValue}
+use Rattle.trailer.specs.Trailer.{magicBytes, trailer, magicAt, okAt, magicOf, markOf, markBytes, isGood, isUnset, hasValue, magicUnits}
 use Rattle.plan.specs.declared.Course.the-variants.{FromLineThree}
 use Rattle.plan.specs.Lists.{trailerUnit, eraseTrailer, writes, magicOps, okOps, linesOneTwo}
 use Rattle.plan.specs.Decision.{stepA}
@@ -30,7 +30,7 @@ use Rattle.recovery.specs.Hiding.{wipeTrailer}
 same-size : (g : Build) (a : Area) (f f' : Flash) → length (area a f') ≡ length (area a f) → Sized g a f → Sized g a f'
 unfolding trailer
 same-size g a f f' e h =
-    let n : ℕ = dataSectors g a * g .sector in
+    let n : ℕ = startOf (geometry g) (trailerSector g a) .0 in
     length-drop n (area a f') ∙ ap (λ (k : ℕ). k - n) e ∙ sym (length-drop n (area a f)) ∙ h
 
 pub sized-run : (g : Build) (a : Area) (ops : List Op) (f : Flash) → Sized g a f → Sized g a (runAll g ops f)
@@ -45,7 +45,7 @@ lastByte : Build → Flash → List ℕ
 lastByte g f = part (trailer g scratch f) (g .sector - 1) 1
 
 module _ {g : Build} (geo : Geo g) where
-  keep-last : (o : ℕ) (u : Unit) (bs : List ℕ) (f : Flash) → u .0 * g .unit ≡ dataSectors g scratch * g .sector + o
+  keep-last : (o : ℕ) (u : Unit) (bs : List ℕ) (f : Flash) → placeOf (geometry g) u .0 ≡ startOf (geometry g) (trailerSector g scratch) .0 + o
       → o + length bs < g .sector → lastByte g (apply g (write scratch u bs) f) ≡ lastByte g f
   unfolding lastByte apply
   keep-last o u bs f e h =
@@ -53,8 +53,9 @@ module _ {g : Build} (geo : Geo g) where
       ∙ ap (λ (t : List ℕ). part t (g .sector - 1) 1) (trailer-store g scratch o bs f)
       ∙ part-put-after (trailer g scratch f) o bs (g .sector - 1) 1 (omega arith)
 
-  cut-writes : (o : ℕ) (u : Unit) (k : ℕ) (bs : List ℕ) {f f' : Flash} → u .0 * g .unit ≡ dataSectors g scratch * g .sector + o
-      → o + k * g .unit ≡ g .sector → Cut g (writes g scratch u k bs) f f' → lastByte g f' ≡ lastByte g f
+  cut-writes : (o : ℕ) (u : Unit) (k : ℕ) (bs : List ℕ) {f f' : Flash}
+      → placeOf (geometry g) u .0 ≡ startOf (geometry g) (trailerSector g scratch) .0 + o
+      → o + bytesIn (geometry g) (unitCount k) .0 ≡ g .sector → Cut g (writes g scratch u k bs) f f' → lastByte g f' ≡ lastByte g f
   unfolding writes
   cut-writes o u zero bs e h c = absurd (cut-nil c)
   cut-writes o u (suc zero) bs e h (here t) = ap (lastByte g) (write-whole geo scratch o u e t)
@@ -92,7 +93,7 @@ module _ {g : Build} (geo : Geo g) where
           → lastByte g f' ≡ lastByte g f₁
       go (inl c) = hidden-cut (hidden-last p) c
       go (inr c) =
-          cut-writes (magicAt g .0) (trailerUnit g scratch (magicAt g)) (16 / g .unit) magicBytes
+          cut-writes (magicAt g .0) (trailerUnit g scratch (magicAt g)) (magicUnits (geometry g) .0) magicBytes
           (unit-back geo scratch (magicAt g) (magic-unit geo)) (omega (arith, magic-units geo)) c
           ∙ hidden-run (hidden-last p) f₁
 

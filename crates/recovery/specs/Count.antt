@@ -1,4 +1,5 @@
 -- How many operations an exchange takes.
+use Rattle.trailer.specs.Trailer.{magicUnits}
 use mathlib.Core.Path.{_≡_}
 use mathlib.Core.List.{List, [], _∷_, _++_}
 use mathlib.Core.Bool.{Bool, true, false}
@@ -6,7 +7,7 @@ use Prim.Native.Nat.{ℕ, suc, _+_, _*_, _/_, _≤_}
 use native.Mathlib.Nat.{mul-le-mul-right, le-of-mul-le-mul-right, dvd-mul-left-of-dvd, div-mul-cancel}
 use native.Mathlib.Omega.{arith}
 use lib.ListN.{length, length-append}
-use Rattle.flash.specs.Build.{Build, Move}
+use Rattle.flash.specs.Build.{Build, Move, geometry}
 use Rattle.plan.specs.Lists.{progress, linesOneTwo, linesThreeToSix, moveOps, dataOps, exchange}
 use Rattle.plan.specs.Lengths.{one-if, length-copies, length-ok, length-magic}
 use Rattle.recovery.specs.Places.{Geo, per}
@@ -22,7 +23,7 @@ length-data g c (m ∷ ms) = simp (length-append, length-copies) (omega (arith, 
 
 -- for any list of moves
 pub length-exchange : (g : Build) (p : Bool)
-    → length (exchange g p) ≡ length (g .moves) * (per g + 2) + 8 + 2 * one-if p + 2 * (16 / g .unit)
+    → length (exchange g p) ≡ length (g .moves) * (per g + 2) + 8 + 2 * one-if p + 2 * (magicUnits (geometry g) .0)
 unfolding exchange linesOneTwo linesThreeToSix
 length-exchange g p = simp (length-append, length-ok, length-magic, length-data) (omega arith)
 
@@ -43,7 +44,7 @@ length-move g c m = simp (length-append, length-copies) (omega arith)
 
 module _ {g : Build} (geo : Geo g) where
   -- a sector has room for three marks of each sector, and for magic, image ok and copy done
-  roomy : 6 + 2 * (16 / g .unit) ≤ per g
+  roomy : 6 + 2 * (magicUnits (geometry g) .0) ≤ per g
   roomy =
       let w : ℕ = g .unit in
       let d : 16 / w * w ≡ 16 = div-mul-cancel w (dvd-mul-left-of-dvd w (geo .eight) 2) in

@@ -6,8 +6,9 @@ use Prim.Native.Nat.{ℕ, suc, _+_, _*_, _-_, _≤_, _<_}
 use native.Mathlib.Omega.{arith}
 use lib.ListN.{length, take, drop}
 use lib.Seq.{drop-drop, take-add}
+use Rattle.flash.specs.Geometry.{startOf}
 use Rattle.flash.specs.declared.Sector.{Sector}
-use Rattle.flash.specs.Build.{Area, slot0, slot1, scratch, Build, Move, Flash, area, dataSectors, valid}
+use Rattle.flash.specs.Build.{Area, slot0, slot1, scratch, Build, Move, Flash, area, dataSectors, valid, geometry, trailerSector, lentBytes}
 use Rattle.flash.specs.Operations.{Op, runAll}
 use Rattle.flash.specs.Harm.{Cut}
 use Rattle.trailer.specs.Trailer.{trailer, magicOf, isGood}
@@ -164,7 +165,7 @@ module _ (check : List ℕ → Bool) {g : Build} (geo : Geo g) (sound : Sound g)
   same-decision f f' e₀ e₁ q q' = rw (q, q') (ap₂ (λ x y. by-slots (record { in0 = x; in1 = y; in2 = [] })) e₀ e₁)
     where
       by-slots : Flash → Course
-      by-slots f = judged (check (take (g .lent * g .sector) (f .in1)))
+      by-slots f = judged (check (take (lentBytes g .0) (f .in1)))
           (stepB g (trailer g slot0 f) (stateC g (trailer g slot0 f) (trailer g slot1 f)))
 
   step-A-taken : (f : Flash) → trailer g scratch f ≡ begun g p → decide check g f ≡ FromLineThree p
@@ -197,7 +198,7 @@ module _ (check : List ℕ → Bool) {g : Build} (geo : Geo g) (sound : Sound g)
   follow-settle f l inv =
       let rest : List Op = linesThreeToSix g p ++ dataOps g 3 (g .moves) in
       let e : decide check g f ≡ FromLineThree p =
-      step-A-taken f (ap (λ x. drop (dataSectors g scratch * g .sector) (x .in2)) l ∙ trailer-begin geo p f₀ (sized scratch)) in
+      step-A-taken f (ap (λ x. drop (startOf (geometry g) (trailerSector g scratch) .0) (x .in2)) l ∙ trailer-begin geo p f₀ (sized scratch)) in
       let i : inForce check g f ≡ rest = planned f inv (FromLineThree p) e in (
         i ∙ ap (λ (x : List Op). linesThreeToSix g p ++ x) (sym (all-data geo 3 (g .moves))),
         way f inv (FromLineThree p) (λ d. let z : _≡_ {A = ℕ} 0 1 = cc in omega arith) rest i e (settle-short g p) (before (λ b k h.

@@ -2,7 +2,7 @@
 use mathlib.Core.Path.{_≡_, refl, sym, ap, ap₂, _∙_}
 use mathlib.Core.List.{List, [], _∷_, _++_}
 use mathlib.Core.Bool.{Bool, true, false}
-use Prim.Native.Nat.{ℕ, zero, suc, _+_, _*_, _/_, _≤_, _<_}
+use Prim.Native.Nat.{ℕ, zero, suc, _+_, _*_, _≤_, _<_}
 use Prim.Native.Nat.{_∣_}
 use native.Mathlib.Nat.{add-zero}
 use native.Mathlib.Omega.{arith}
@@ -13,11 +13,11 @@ use Rattle.spans.specs.Laws.{length-blank, part-blank, part-put, part-put-after
 use Rattle.flash.specs.declared.Sector.{Sector}
 use Rattle.flash.specs.declared.Unit.{Unit}
 use Rattle.flash.specs.declared.Offset.{Offset}
-use Rattle.flash.specs.Geometry.{firstUnit, nextUnit}
-use Rattle.flash.specs.Build.{Area, slot0, slot1, scratch, Build, Move, Flash, area, geometry, dataSectors}
+use Rattle.flash.specs.Geometry.{firstUnit, nextUnit, unitCount, startOf, placeOf, bytesIn}
+use Rattle.flash.specs.Build.{Area, slot0, slot1, scratch, Build, Move, Flash, area, geometry, dataSectors, trailerSector}
 use Rattle.flash.specs.Operations.{Op, erase, write, copy, store, unitOf, apply, runAll}
 use Rattle.flash.specs.AreaLaws.{area-store}
-use Rattle.trailer.specs.Trailer.{magicBytes, trailer, magicAt, okAt, copyDoneAt, markAt, markBytes}
+use Rattle.trailer.specs.Trailer.{magicBytes, trailer, magicAt, okAt, copyDoneAt, markAt, markBytes, magicUnits}
 use Rattle.plan.specs.Lists.{trailerUnit, eraseTrailer, mark, progress, writes, magicOps, okOps, linesOneTwo, linesThreeToSix, copies, moveOps, dataOps, exchange}
 use Rattle.recovery.specs.All.{All, one-less}
 use Rattle.recovery.specs.Windows.{wipe, hidden-run}
@@ -51,7 +51,7 @@ fresh-append (x ∷ xs) ys (copying e p) q = copying e (fresh-append xs ys p q)
 module _ (g : Build) (a : Area) where
   -- k units from u on are erased
   abbrev Blank : Unit → ℕ → Flash → Type 0
-  Blank u k f = part (area a f) (u .0 * g .unit) (k * g .unit) ≡ blank (k * g .unit)
+  Blank u k f = part (area a f) (placeOf (geometry g) u .0) (bytesIn (geometry g) (unitCount k) .0) ≡ blank (bytesIn (geometry g) (unitCount k) .0)
 
   -- the first of them, and the others once it is written
   module _ (u : Unit) (k : ℕ) (f : Flash) (e : Blank u (suc k) f) where
@@ -85,11 +85,12 @@ module _ (g : Build) (a : Area) where
 
 -- ---- trailer sectors
 
-trailer-part : (g : Build) (a : Area) (f : Flash) (u : Unit) (o l : ℕ) → u .0 * g .unit ≡ dataSectors g a * g .sector + o
-    → part (area a f) (u .0 * g .unit) l ≡ part (trailer g a f) o l
+trailer-part : (g : Build) (a : Area) (f : Flash) (u : Unit) (o l : ℕ)
+    → placeOf (geometry g) u .0 ≡ startOf (geometry g) (trailerSector g a) .0 + o
+    → part (area a f) (placeOf (geometry g) u .0) l ≡ part (trailer g a f) o l
 unfolding part trailer
 trailer-part g a f u o l e =
-    ap (λ (n : ℕ). take l (drop n (area a f))) e ∙ ap (take l) (sym (drop-drop o (dataSectors g a * g .sector) (area a f)))
+    ap (λ (n : ℕ). take l (drop n (area a f))) e ∙ ap (take l) (sym (drop-drop o (startOf (geometry g) (trailerSector g a) .0) (area a f)))
 
 module _ {g : Build} (geo : Geo g) where
   fresh-mark : (a : Area) (at : Offset) (v : ℕ) {ops : List Op} (f : Flash) → g .unit ∣ at .0
@@ -107,8 +108,8 @@ module _ {g : Build} (geo : Geo g) where
   unfolding magicOps
   fresh-magic a f e =
       let u : Unit = trailerUnit g a (magicAt g) in
-      fresh-writes g a u (16 / g .unit) magicBytes f
-      (trailer-part g a f u (magicAt g .0) (16 / g .unit * g .unit) (unit-back geo a (magicAt g) (magic-unit geo))
+      fresh-writes g a u (magicUnits (geometry g) .0) magicBytes f
+      (trailer-part g a f u (magicAt g .0) (bytesIn (geometry g) (magicUnits (geometry g)) .0) (unit-back geo a (magicAt g) (magic-unit geo))
       ∙ rw (magic-units geo) e)
 
   -- image ok and marks leave the place of the magic as it is, and erased

@@ -2,17 +2,17 @@
 use mathlib.Core.Path.{_≡_, ap}
 use mathlib.Core.List.{List}
 use mathlib.Core.Bool.{Bool, true, false}
-use Prim.Native.Nat.{ℕ, zero, suc, _+_, _*_, _/_, _≤_, _<_}
+use Prim.Native.Nat.{ℕ, zero, suc, _+_, _*_, _≤_, _<_}
 use Prim.Native.Nat.{_∣_}
 use native.Mathlib.Omega.{arith}
 use lib.ListN.{take, drop, length-take}
 use Rattle.flash.specs.declared.Sector.{Sector}
 use Rattle.flash.specs.declared.Unit.{Unit}
 use Rattle.flash.specs.declared.Offset.{Offset}
-use Rattle.flash.specs.Geometry.{firstUnit, nextUnit}
-use Rattle.flash.specs.Build.{Area, slot0, scratch, Build, Move, Flash, geometry, dataSectors, trailerSector}
+use Rattle.flash.specs.Geometry.{firstUnit, nextUnit, unitCount, startOf, placeOf, bytesIn}
+use Rattle.flash.specs.Build.{Area, slot0, scratch, Build, Move, Flash, geometry, trailerSector}
 use Rattle.flash.specs.Operations.{apply, runAll}
-use Rattle.trailer.specs.Trailer.{magicBytes, magicAt, okAt, markAt, markBytes}
+use Rattle.trailer.specs.Trailer.{magicBytes, magicAt, okAt, markAt, markBytes, magicUnits}
 use Rattle.plan.specs.Lists.{trailerUnit, mark, progress, writes, magicOps, okOps, linesOneTwo, copies, moveOps}
 use Rattle.recovery.specs.All.{All, none, one, all-append}
 use Rattle.recovery.specs.Windows.{Hidden, wipe, hidden-erase, hidden-write, hidden-copy}
@@ -30,8 +30,9 @@ module _ {g : Build} (geo : Geo g) where
       hidden-write g a (trailerSector g a) (at .0) (trailerUnit g a at) (unit-back geo a at d) h (markBytes g v)
       (omega (arith, length-mark geo v))
 
-  hidden-writes : (a : Area) (o : ℕ) (u : Unit) (k : ℕ) (bs : List ℕ) → u .0 * g .unit ≡ dataSectors g a * g .sector + o
-      → o + k * g .unit ≤ g .sector → All (Hidden g (wipeTrailer g a)) (writes g a u k bs)
+  hidden-writes : (a : Area) (o : ℕ) (u : Unit) (k : ℕ) (bs : List ℕ)
+      → placeOf (geometry g) u .0 ≡ startOf (geometry g) (trailerSector g a) .0 + o
+      → o + bytesIn (geometry g) (unitCount k) .0 ≤ g .sector → All (Hidden g (wipeTrailer g a)) (writes g a u k bs)
   unfolding writes
   hidden-writes a o u zero bs e h = none
   hidden-writes a o u (suc k) bs e h =
@@ -41,7 +42,7 @@ module _ {g : Build} (geo : Geo g) where
   pub hidden-magic : (a : Area) → All (Hidden g (wipeTrailer g a)) (magicOps g a)
   unfolding magicOps
   hidden-magic a =
-      hidden-writes a (magicAt g .0) (trailerUnit g a (magicAt g)) (16 / g .unit) magicBytes
+      hidden-writes a (magicAt g .0) (trailerUnit g a (magicAt g)) (magicUnits (geometry g) .0) magicBytes
       (unit-back geo a (magicAt g) (magic-unit geo)) (omega (arith, magic-units geo))
 
   pub hidden-ok : (a : Area) (p : Bool) → All (Hidden g (wipeTrailer g a)) (okOps g a p)
@@ -57,7 +58,8 @@ module _ {g : Build} (geo : Geo g) where
   hidden-progress k h = hidden-mark slot0 (markAt g k) (g .value k) (mark-unit geo k) (omega (arith, mark-room geo h))
 
   hidden-copies : (a : Area) (v : Unit) (b : Area) (j : Sector) (o : ℕ) (u : Unit) (k : ℕ)
-      → u .0 * g .unit ≡ j .0 * g .sector + o → o + k * g .unit ≤ g .sector → All (Hidden g (wipe g b j)) (copies a v b u k)
+      → placeOf (geometry g) u .0 ≡ startOf (geometry g) j .0 + o → o + bytesIn (geometry g) (unitCount k) .0 ≤ g .sector
+      → All (Hidden g (wipe g b j)) (copies a v b u k)
   unfolding copies
   hidden-copies a v b j o u zero e h = none
   hidden-copies a v b j o u (suc k) e h =

@@ -2,14 +2,14 @@
 use mathlib.Core.Path.{_≡_, refl, sym, ap, _∙_}
 use mathlib.Core.List.{List}
 use mathlib.Core.Bool.{Bool, true, false}
-use Prim.Native.Nat.{ℕ, _*_, _≤_}
+use Prim.Native.Nat.{ℕ, _≤_}
 use native.Mathlib.Omega.{arith}
 use lib.ListN.{length, take}
 use lib.Dec.{ltb}
 use borrow.Author.Tests.{le-ltb}
 use Rattle.spans.specs.Choice.{pick}
 use Rattle.flash.specs.declared.End.the-variants.{Going, Stopped}
-use Rattle.flash.specs.Build.{slot0, slot1, scratch, Build, Flash}
+use Rattle.flash.specs.Build.{slot0, slot1, scratch, Build, Flash, lentBytes}
 use Rattle.flash.specs.Operations.{run, runAll, State, steps, start}
 use Rattle.trailer.specs.Trailer.{trailer, magicOf, isGood}
 use Rattle.plan.specs.declared.Course.{Course}
@@ -58,7 +58,7 @@ quiet {check} {g} {f} {course} due = go (isGood (magicOf g t2)) (due .decided)
     t2 = trailer g scratch f
 
     accepted : Bool
-    accepted = check (take (g .lent * g .sector) (f .in1))
+    accepted = check (take (lentBytes g .0) (f .in1))
 
     go : (b : Bool) → judged accepted (pick b (stepA g t2) (stepB g t0 (stateC g t0 (trailer g slot1 f)))) ≡ course → b ≡ false
     go true h = sym (of-exchange (due .which)) ∙ ap exchanges (sym h) ∙ not-by-A g t2 accepted

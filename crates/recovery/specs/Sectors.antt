@@ -12,8 +12,9 @@ use borrow.Author.Tests.{eqb-true, eqb-false, ne-eqb, ltb-true, ltb-false}
 use Rattle.spans.specs.Bytes.{part, put, blank}
 use Rattle.spans.specs.Choice.{pick, both}
 use Rattle.spans.specs.Laws.{length-blank, part-put, part-put-before, part-put-after}
+use Rattle.flash.specs.Geometry.{startOf}
 use Rattle.flash.specs.declared.Sector.{Sector}
-use Rattle.flash.specs.Build.{Area, slot0, slot1, Build, Move, Flash, area, sameArea, dataSectors, trailerSector}
+use Rattle.flash.specs.Build.{Area, slot0, slot1, Build, Move, Flash, area, sameArea, dataSectors, trailerSector, geometry}
 use Rattle.flash.specs.Operations.{store}
 use Rattle.flash.specs.AreaLaws.{same-area, unseen, area-store}
 use Rattle.trailer.specs.Trailer.{trailer}
@@ -77,7 +78,7 @@ module _ {g : Build} (geo : Geo g) where
   unfolding trailer
   inside a i f z h =
       let p : 0 < g .sector = omega arith in
-      omega (arith, sym (length-drop (dataSectors g a * g .sector) (area a f)) ∙ z, mul-le-mul-right {m = suc (i .0)} (g .sector) h)
+      omega (arith, sym (length-drop (startOf (geometry g) (trailerSector g a) .0) (area a f)) ∙ z, mul-le-mul-right {m = suc (i .0)} (g .sector) h)
 
   pub sector-else : (a b : Area) (j k : Sector) (xs : List ℕ) (f : Flash) → length xs ≡ g .sector → sameSector a j b k ≡ false
       → sectorOf g (store a (j .0 * g .sector) xs f) b k ≡ sectorOf g f b k

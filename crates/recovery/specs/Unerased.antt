@@ -10,7 +10,7 @@ use borrow.Author.Tests.{ltb-true, ltb-false, le-ltb, leb-true}
 use Rattle.spans.specs.Bytes.{part, blank}
 use Rattle.spans.specs.Choice.{pick, both}
 use Rattle.flash.specs.Geometry.{sectorNo}
-use Rattle.flash.specs.Build.{Area, slot0, slot1, scratch, Build, Flash, dataSectors, valid}
+use Rattle.flash.specs.Build.{Area, slot0, slot1, scratch, Build, Flash, dataSectors, valid, lentBytes}
 use Rattle.flash.specs.Operations.{erase, apply, runAll}
 use Rattle.trailer.specs.declared.Mark.{Mark}
 use Rattle.trailer.specs.Trailer.{trailer, okAt, copyDoneAt, markAt, magicOf, markOf, isGood, noMagic, isUnset, hasValue, written, legal}
@@ -99,7 +99,7 @@ pub resume-means : (check : List ℕ → Bool) (g : Build) (f : Flash) {c : ℕ}
     → Resumable g (trailer g slot0 f) c
 unfolding decide asks
 resume-means check g f {c} h =
-    go (isGood (magicOf g t2)) (resumed-judged (check (take (g .lent * g .sector) (f .in1))) (asks g t0 t1 t2) h)
+    go (isGood (magicOf g t2)) (resumed-judged (check (take (lentBytes g .0) (f .in1))) (asks g t0 t1 t2) h)
   where
     t0 : List ℕ
     t0 = trailer g slot0 f

@@ -9,7 +9,8 @@ use native.Mathlib.Omega.{arith}
 use lib.ListN.{length, drop, length-drop}
 use lib.Dec.{eqb}
 use borrow.Author.Tests.{eqb-true, leb-true}
-use Rattle.flash.specs.Build.{Area, slot0, slot1, scratch, Build, Flash, area, asked, fits, valid}
+use Rattle.flash.specs.Geometry.{slotBytes}
+use Rattle.flash.specs.Build.{Area, slot0, slot1, scratch, Build, Flash, area, asked, fits, valid, geometry, scratchBytes}
 use Rattle.flash.specs.Units.{each-unit}
 use Rattle.trailer.specs.Trailer.{trailer}
 use Rattle.recovery.specs.All.{All, none, one, every-all}
@@ -35,7 +36,7 @@ of-valid g f h = go (every-all (asked g (length (f .in0)) (length (f .in1)) (len
     go (one u (one m (one lo (one hi (one n₂ (one n₈ (one l₀ (one l₁ (one l₂ none))))))))) =
         let two : 2 ≤ g .sectors = leb-true 2 (g .sectors) n₂ in
         let many : g .sectors * g .unit ≤ 128 * g .unit = mul-le-mul-right (g .unit) (leb-true (g .sectors) 128 n₈) in
-        let n : g .sectors * g .sector ≡ suc (g .sectors - 1) * g .sector =
+        let n : slotBytes (geometry g) .0 ≡ suc (g .sectors - 1) * g .sector =
         ap (λ (x : ℕ). x * g .sector) (let e : g .sectors ≡ suc (g .sectors - 1) = omega arith in e) in
         record {
           geo = record {
@@ -46,9 +47,9 @@ of-valid g f h = go (every-all (asked g (length (f .in0)) (length (f .in1)) (len
             two = two;
           };
           sized = elim [
-            | slot0 ↦ last (g .sectors - 1) (f .in0) (eqb-true (length (f .in0)) (g .sectors * g .sector) l₀ ∙ n)
-            | slot1 ↦ last (g .sectors - 1) (f .in1) (eqb-true (length (f .in1)) (g .sectors * g .sector) l₁ ∙ n)
-            | scratch ↦ last (g .spare) (f .in2) (eqb-true (length (f .in2)) (suc (g .spare) * g .sector) l₂)
+            | slot0 ↦ last (g .sectors - 1) (f .in0) (eqb-true (length (f .in0)) (slotBytes (geometry g) .0) l₀ ∙ n)
+            | slot1 ↦ last (g .sectors - 1) (f .in1) (eqb-true (length (f .in1)) (slotBytes (geometry g) .0) l₁ ∙ n)
+            | scratch ↦ last (g .spare) (f .in2) (eqb-true (length (f .in2)) (scratchBytes g .0) l₂)
           ];
         }
 

@@ -14,15 +14,21 @@ last-sector-requires c κs = search needs
 
 erase-sectors-requires : tie.Need-erase-sectors-requires
 erase-sectors-requires c κs =
-    (c .pre, omega (arith, ap (λ (i : Sector). i .0) (c .last-sector .ensures), c .pre))
+    let small = c .pre in
+    let last = ap (λ (i : Sector). i .0) (c .last-sector .ensures) in
+    (small, omega (arith, last, small))
 
 write-ok-requires : tie.Need-write-ok-requires
 write-ok-requires c κs =
-    (c .pre, omega (arith, ap (λ (i : Sector). i .0) (c .last-sector .ensures), c .pre))
+    let small = c .pre in
+    let last = ap (λ (i : Sector). i .0) (c .last-sector .ensures) in
+    (small, omega (arith, last, small))
 
 erase-requires : tie.Need-erase-requires
 erase-requires c κs =
-    (c .pre, omega (arith, ap (λ (i : Sector). i .0) (c .last-sector .ensures), c .pre))
+    let small = c .pre in
+    let last = ap (λ (i : Sector). i .0) (c .last-sector .ensures) in
+    (small, omega (arith, last, small))
 
 same-length : tie.Need-same-length
 same-length c = search needs

@@ -13,11 +13,15 @@ last-sector-requires c κs = search needs
 
 erase-requires : tie.Need-erase-requires
 erase-requires c κs =
-    (c .pre, omega (arith, ap (λ (i : Sector). i .0) (c .last-sector .ensures), c .pre))
+    let small = c .pre in
+    let last = ap (λ (i : Sector). i .0) (c .last-sector .ensures) in
+    (small, omega (arith, last, small))
 
 erase-requires-2 : tie.Need-erase-requires-2
 erase-requires-2 c κs =
-    (c .pre, omega (arith, ap (λ (i : Sector). i .0) (c .last-sector .ensures), c .pre))
+    let small = c .pre in
+    let last = ap (λ (i : Sector). i .0) (c .last-sector .ensures) in
+    (small, omega (arith, last, small))
 
 line-five-requires : tie.Need-line-five-requires
 line-five-requires c κs = search needs

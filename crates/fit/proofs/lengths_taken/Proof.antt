@@ -40,7 +40,8 @@ returns-3 c =
     let m = ap (λ (b : Bytes). b .0) (c .before .scratch-bytes .ensures) in
     rw (
       sym n,
-      eq-eqb (given .l0) (c .before .before .before .before .before .before .slot-bytes .result .0) (c .before .before .before .before .if1 .left),
+      eq-eqb (given .l0) (c .before .before .before .before .before .before .slot-bytes .result .0)
+          (c .before .before .before .before .if1 .left),
       eq-eqb (given .l1) (c .before .before .before .before .before .before .slot-bytes .result .0) (c .before .before .if2 .left),
       and-true,
       sym m,

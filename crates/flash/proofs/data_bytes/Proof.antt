@@ -9,7 +9,11 @@ sub-t2 : tie.Need-sub-t2
 sub-t2 c = search needs
 
 mul-t3 : tie.Need-mul-t3
-mul-t3 c = let given = c .before .before .args in omega (arith, product-fits (given .g .sectors - 1) (given .g .sector) (omega arith) (omega arith))
+mul-t3 c = let given = c .before .before .args in omega (
+  arith,
+  product-fits (given .g .sectors - 1) (given .g .sector) (omega arith)
+      (omega arith),
+)
 
 returns : tie.Need-returns
 returns c = search needs

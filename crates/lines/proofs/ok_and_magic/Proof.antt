@@ -14,11 +14,15 @@ last-sector-requires c κs = search needs
 
 write-ok-requires : tie.Need-write-ok-requires
 write-ok-requires c κs =
-    (c .before .before .before .pre, omega (arith, ap (λ (i : Sector). i .0) (c .before .last-sector .ensures), c .before .before .before .pre))
+    let small = c .before .before .before .pre in
+    let last = ap (λ (i : Sector). i .0) (c .before .last-sector .ensures) in
+    (small, omega (arith, last, small))
 
 write-magic-requires : tie.Need-write-magic-requires
 write-magic-requires c κs =
-    (c .before .before .before .before .before .before .before .pre, omega (arith, ap (λ (i : Sector). i .0) (c .before .before .before .before .before .last-sector .ensures), c .before .before .before .before .before .before .before .pre))
+    let small = c .before .before .before .before .before .before .before .pre in
+    let last = ap (λ (i : Sector). i .0) (c .before .before .before .before .before .last-sector .ensures) in
+    (small, omega (arith, last, small))
 
 same-length : tie.Need-same-length
 same-length c = search needs
@@ -29,8 +33,10 @@ returns c =
     let given = c .before .before .before .before .before .before .before .before .before .before .args in
     let last = c .before .before .before .before .before .before .before .before .last-sector .ensures in
     c .before .before .write-magic .ensures
-    ∙ ap (λ (i : Sector). magicIn (given .g) i (local (c .before .before .before .before .before .before .write-ok .last .1 .0) (c .before .before .before .before .before .before .write-ok .result))) last
-    ∙ ap (magicIn (given .g) (trailerSector (build (given .g)) Area.slot1)) (c .before .before .before .before .before .before .write-ok .ensures
+    ∙ ap (λ (i : Sector). magicIn (given .g) i (local (c .before .before .before .before .before .before .write-ok .last .1 .0)
+    (c .before .before .before .before .before .before .write-ok .result))) last
+    ∙ ap (magicIn (given .g) (trailerSector (build (given .g)) Area.slot1))
+    (c .before .before .before .before .before .before .write-ok .ensures
     ∙ ap (λ (i : Sector). okIn (given .g) i (given .lasting) (local (given .slot1 .now) (given .run))) last)
 
 pub ok-and-magic-spec : {M : Type 1} → statement M

@@ -25,9 +25,12 @@ last-sector-requires c κs = search needs
 write-mark-requires : tie.Need-write-mark-requires
 unfolding base
 write-mark-requires c κs =
-    let small = c .before .before .before .before .before .before .before .before .before .before .before .before .before .before .before .before .pre .0 in
+    let small = c .before .before .before .before .before .before .before .before .before .before .before .before .before .before .before
+    .before .pre .0 in
     let last = ap (λ (i : Sector). i .0) (c .before .last-sector .ensures) in
-    let at : c .before .before .done-place .result .0 ≡ c .before .before .before .before .before .before .before .before .before .before .before .before .before .before .before .before .args .g .sector - 32 = ap (λ (o : Offset). o .0) (c .before .before .done-place .ensures) in
+    let at : c .before .before .done-place .result .0 ≡ c .before .before .before .before .before .before .before .before .before .before
+    .before .before .before .before .before .before .args .g .sector - 32 = ap (λ (o : Offset). o .0)
+    (c .before .before .done-place .ensures) in
     (small, (omega (arith, last, small .many), omega (arith, at, small .room)))
 
 same-length : tie.Need-same-length
@@ -42,11 +45,13 @@ same-length-3 c = search needs
 returns : tie.Need-returns
 unfolding base
 returns c =
-    let given = c .before .before .before .before .before .before .before .before .before .before .before .before .before .before .before .before .before .before .before .args in
+    let given = c .before .before .before .before .before .before .before .before .before .before .before .before .before .before .before
+    .before .before .before .before .args in
     let moved = c .before .before .before .before .before .before .before .before .before .before .before .before .moves-from in
     let at = c .before .before .before .before .before .done-place in
     in-slot0 (given .g) _ _ _ _ (at .result) 1 _ _ (c .before .before .write-mark .ensures
-    ∙ ap (λ (i : Sector). markIn (given .g) i (at .result) 1 (local (moved .last .1 .1 .0) (moved .result))) (c .before .before .before .before .last-sector .ensures))
+    ∙ ap (λ (i : Sector). markIn (given .g) i (at .result) 1 (local (moved .last .1 .1 .0) (moved .result)))
+    (c .before .before .before .before .last-sector .ensures))
     ∙ ap (λ (o : Offset). step (build (given .g)) (mark (build (given .g)) Area.slot0 o 1)
     (state (moved .last .1 .1 .0) (moved .last .1 .1 .1 .0) (moved .last .1 .1 .1 .1 .0) (moved .result))) (at .ensures)
     ∙ moved .ensures

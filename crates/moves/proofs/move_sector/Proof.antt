@@ -48,8 +48,14 @@ write-units-requires c κs =
     (given .g .sector / given .g .unit) = ap (λ (u : Unit). u .0) (c .before .before .first-unit2 .ensures) in
     let n : given .g .sector / given .g .unit ≤ 65536 = omega (arith, div-le-self (given .g .sector) (given .g .unit)) in (
       c .before .before .before .before .before .before .before .before .before .before .before .pre .0,
-      omega
-          (arith, e, n, ap (λ (k : Units). k .0) (c .before .units-per-sector .ensures), mul-le-mul {n₁ = given .to .0} {n₂ = 127} {m₂ = 65536} (omega arith) n),
+      omega (
+        arith,
+        e,
+        n,
+        ap (λ (k : Units). k .0)
+            (c .before .units-per-sector .ensures),
+        mul-le-mul {n₁ = given .to .0} {n₂ = 127} {m₂ = 65536} (omega arith) n,
+      ),
     )
 
 same-length : tie.Need-same-length
@@ -58,16 +64,20 @@ same-length c = search needs
 returns : tie.Need-returns
 unfolding moveIn
 returns c =
-    let given = c .before .before .before .before .before .before .before .before .before .before .before .before .before .before .args in
+    let given = c .args in
     let n : Units = unitsPerSector (given .g) in
-    let wiped : Local = local (c .before .before .before .before .before .before .before .before .before .before .erase .last .1 .0) (c .before .before .before .before .before .before .before .before .before .before .erase .result) in
-    c .before .before .write-units .ensures
-    ∙ ap (λ (k : Units). writeAllIn (given .g) (c .before .before .before .before .before .first-unit2 .result) (k .0)
-    (part (given .src .now) (c .before .before .before .before .before .before .place-of .result .0) (bytesIn (given .g) k .0)) wiped) (c .before .before .before .before .units-per-sector .ensures)
+    let erased = c .erase in
+    let wiped : Local = local (erased .last .1 .0) (erased .result) in
+    let at = c .place-of in
+    let u = c .first-unit2 in
+    let from = at .ensures ∙ ap (placeOf (given .g)) (c .first-unit .ensures) in
+    c .write-units .ensures
+    ∙ ap (λ (k : Units). writeAllIn (given .g) (u .result) (k .0)
+    (part (given .src .now) (at .result .0) (bytesIn (given .g) k .0)) wiped) (c .units-per-sector .ensures)
     ∙ ap₂ (λ (u : Unit) (o : Offset). writeAllIn (given .g) u (n .0) (part (given .src .now) (o .0) (bytesIn (given .g) n .0)) wiped)
-    (c .before .before .before .before .before .first-unit2 .ensures) (c .before .before .before .before .before .before .place-of .ensures ∙ ap (placeOf (given .g)) (c .before .before .before .before .before .before .before .first-unit .ensures))
+    (u .ensures) from
     ∙ ap (writeAllIn (given .g) (firstUnit (given .g) (given .to)) (n .0)
-    (part (given .src .now) (placeOf (given .g) (firstUnit (given .g) (given .from)) .0) (bytesIn (given .g) n .0))) (c .before .before .before .before .before .before .before .before .before .before .erase .ensures)
+    (part (given .src .now) (placeOf (given .g) (firstUnit (given .g) (given .from)) .0) (bytesIn (given .g) n .0))) (erased .ensures)
 
 pub move-sector-spec : {M : Type 1} → statement M
 move-sector-spec =

@@ -17,8 +17,9 @@ marked-sector-requires c κs = search needs
 
 move-sector-requires : tie.Need-move-sector-requires
 move-sector-requires c κs =
-    let i = ap (λ (i : Sector). i .0) (c .before .before .before .marked-sector .ensures) in
-    (c .before .before .before .before .before .before .before .pre .0, (omega (arith, i, c .before .before .before .before .before .before .before .pre .0 .many), omega (arith, i, c .before .before .before .before .before .before .before .pre .0 .many)))
+    let small = c .pre .0 in
+    let i = ap (λ (i : Sector). i .0) (c .marked-sector .ensures) in
+    (small, (omega (arith, i, small .many), omega (arith, i, small .many)))
 
 same-length : tie.Need-same-length
 same-length c = search needs
@@ -29,16 +30,19 @@ same-length-2 c = search needs
 returns : tie.Need-returns
 returns c =
     let given = c .before .before .before .before .before .before .before .before .before .before .args in
-    to-scratch (given .g) (c .before .before .before .before .before .before .marked-sector .result) (given .slot0 .now) (given .slot1 .now) (given .scratch .now) (given .run)
+    to-scratch (given .g) (c .before .before .before .before .before .before .marked-sector .result) (given .slot0 .now)
+    (given .slot1 .now) (given .scratch .now) (given .run)
     (given .k % 3) _ _ (c .before .before .move-sector .ensures)
     (c .before .before .before .before .before .if1 .taken)
     ∙ ap (λ (i : Sector). steps (build (given .g)) (moveOps (build (given .g)) (moveOf i (given .k % 3)))
-    (state (given .slot0 .now) (given .slot1 .now) (given .scratch .now) (given .run))) (c .before .before .before .before .before .before .marked-sector .ensures)
+    (state (given .slot0 .now) (given .slot1 .now) (given .scratch .now) (given .run)))
+    (c .before .before .before .before .before .before .marked-sector .ensures)
 
 move-sector-requires-2 : tie.Need-move-sector-requires-2
 move-sector-requires-2 c κs =
-    let i = ap (λ (i : Sector). i .0) (c .before .before .before .before .marked-sector .ensures) in
-    (c .before .before .before .before .before .before .before .before .pre .0, (omega (arith, i, c .before .before .before .before .before .before .before .before .pre .0 .many), omega (arith, i, c .before .before .before .before .before .before .before .before .pre .0 .many)))
+    let small = c .pre .0 in
+    let i = ap (λ (i : Sector). i .0) (c .marked-sector .ensures) in
+    (small, (omega (arith, i, small .many), omega (arith, i, small .many)))
 
 same-length-3 : tie.Need-same-length-3
 same-length-3 c = search needs
@@ -49,16 +53,19 @@ same-length-4 c = search needs
 returns-2 : tie.Need-returns-2
 returns-2 c =
     let given = c .before .before .before .before .before .before .before .before .before .before .before .args in
-    to-slot1 (given .g) (c .before .before .before .before .before .before .before .marked-sector .result) (given .slot0 .now) (given .slot1 .now) (given .scratch .now) (given .run)
+    to-slot1 (given .g) (c .before .before .before .before .before .before .before .marked-sector .result) (given .slot0 .now)
+    (given .slot1 .now) (given .scratch .now) (given .run)
     (given .k % 3) _ _ (c .before .before .move-sector2 .ensures)
     (c .before .before .before .before .before .if2 .taken)
     ∙ ap (λ (i : Sector). steps (build (given .g)) (moveOps (build (given .g)) (moveOf i (given .k % 3)))
-    (state (given .slot0 .now) (given .slot1 .now) (given .scratch .now) (given .run))) (c .before .before .before .before .before .before .before .marked-sector .ensures)
+    (state (given .slot0 .now) (given .slot1 .now) (given .scratch .now) (given .run)))
+    (c .before .before .before .before .before .before .before .marked-sector .ensures)
 
 move-sector-requires-3 : tie.Need-move-sector-requires-3
 move-sector-requires-3 c κs =
-    let i = ap (λ (i : Sector). i .0) (c .before .before .before .before .marked-sector .ensures) in
-    (c .before .before .before .before .before .before .before .before .pre .0, (omega (arith, i, c .before .before .before .before .before .before .before .before .pre .0 .many), omega (arith, i, c .before .before .before .before .before .before .before .before .pre .0 .many)))
+    let small = c .pre .0 in
+    let i = ap (λ (i : Sector). i .0) (c .marked-sector .ensures) in
+    (small, (omega (arith, i, small .many), omega (arith, i, small .many)))
 
 same-length-5 : tie.Need-same-length-5
 same-length-5 c = search needs
@@ -69,7 +76,8 @@ same-length-6 c = search needs
 returns-3 : tie.Need-returns-3
 returns-3 c =
     let given = c .before .before .before .before .before .before .before .before .before .before .before .args in
-    to-slot0 (given .g) (c .before .before .before .before .before .before .before .marked-sector .result) (given .slot0 .now) (given .slot1 .now) (given .scratch .now) (given .run)
+    to-slot0 (given .g) (c .before .before .before .before .before .before .before .marked-sector .result) (given .slot0 .now)
+    (given .slot1 .now) (given .scratch .now) (given .run)
     (given .k % 3) _ _ (c .before .before .move-sector3 .ensures)
     (omega (
       arith,
@@ -78,7 +86,8 @@ returns-3 c =
       mod-lt (given .k) {m = 3} (omega arith),
     ))
     ∙ ap (λ (i : Sector). steps (build (given .g)) (moveOps (build (given .g)) (moveOf i (given .k % 3)))
-    (state (given .slot0 .now) (given .slot1 .now) (given .scratch .now) (given .run))) (c .before .before .before .before .before .before .before .marked-sector .ensures)
+    (state (given .slot0 .now) (given .slot1 .now) (given .scratch .now) (given .run)))
+    (c .before .before .before .before .before .before .before .marked-sector .ensures)
 
 pub one-move-spec : {M : Type 1} → statement M
 one-move-spec =

@@ -29,7 +29,8 @@ returns c =
     let at = placeOf (given .g) (given .u) .0 in
     let size = bytesIn (given .g) (given .n) .0 in
     let full : same (part (given .area .now) at size) (blank size) ≡ true =
-    sym (ap₂ (λ (o : Offset) (b : Bytes). same (part (given .area .now) (o .0) (b .0)) (blank (b .0))) (c .before .before .before .place-of .ensures)
+    sym (ap₂ (λ (o : Offset) (b : Bytes). same (part (given .area .now) (o .0) (b .0)) (blank (b .0)))
+    (c .before .before .before .place-of .ensures)
     (c .before .before .bytes-in .ensures))
     ∙ sym (c .before .all-blank .ensures) ∙ c .if1 .taken in
     let all = same-eq (part (given .area .now) at size) (blank size) full in

@@ -27,8 +27,15 @@ further-requires : tie.Need-further-requires Inv-loop μ-loop
 further-requires c κs = search needs
 
 is-erased-requires : tie.Need-is-erased-requires Inv-loop μ-loop
-is-erased-requires c κs =
-    (c .before .before .before .before .before .pre .0, omega (arith, ap (λ (u : Unit). u .0) (c .further .ensures), c .before .before .before .before .before .pre .1))
+is-erased-requires c κs = (
+  c .before .before .before .before .before .pre .0,
+  omega (
+    arith,
+    ap (λ (u : Unit). u .0)
+        (c .further .ensures),
+    c .before .before .before .before .before .pre .1,
+  ),
+)
 
 add-k : tie.Need-add-k Inv-loop μ-loop
 add-k c = search needs
@@ -41,9 +48,11 @@ loop-again c =
     let given = c .before .before .before .before .before .before .before .args in
     let k : ℕ = c .before .before .before .before .before .loop .k in
     let e : erased (given .g) (further (given .u) (unitCount k)) (given .area .now) ≡ true =
-    sym (c .before .is-erased .ensures ∙ ap (λ (u : Unit). erased (given .g) u (given .area .now)) (c .before .before .further .ensures)) ∙ c .if2 .taken in (
+    sym (c .before .is-erased .ensures ∙ ap (λ (u : Unit). erased (given .g) u (given .area .now)) (c .before .before .further .ensures))
+    ∙ c .if2 .taken in (
       omega arith,
-      c .before .before .before .before .before .loop .inv .1 ∙ blank-run-next (given .g) (given .u) (given .n .0) k (given .area .now) (omega arith) e,
+      c .before .before .before .before .before .loop .inv .1 ∙ blank-run-next (given .g) (given .u) (given .n .0) k (given .area .now)
+          (omega arith) e,
     )
 
 returns : tie.Need-returns Inv-loop μ-loop
@@ -51,8 +60,10 @@ returns c =
     let given = c .before .before .before .before .before .before .before .args in
     let k : ℕ = c .before .before .before .before .before .loop .k in
     let e : erased (given .g) (further (given .u) (unitCount k)) (given .area .now) ≡ false =
-    sym (c .before .is-erased .ensures ∙ ap (λ (u : Unit). erased (given .g) u (given .area .now)) (c .before .before .further .ensures)) ∙ c .if2 .left in
-    sym (c .before .before .before .before .before .loop .inv .1 ∙ blank-run-stop (given .g) (given .u) (given .n .0) k (given .area .now) (omega arith) e)
+    sym (c .before .is-erased .ensures ∙ ap (λ (u : Unit). erased (given .g) u (given .area .now)) (c .before .before .further .ensures))
+    ∙ c .if2 .left in
+    sym (c .before .before .before .before .before .loop .inv .1 ∙ blank-run-stop (given .g) (given .u) (given .n .0) k (given .area .now)
+    (omega arith) e)
 
 returns-2 : tie.Need-returns-2 Inv-loop μ-loop
 unfolding blankRun blanks

@@ -14,7 +14,8 @@ returns-2 : tie.Need-returns-2
 returns-2 c = (
   refl,
   rw (
-    le-ltb (c .before .before .before .before .args .written .0) (c .before .before .before .before .args .reached .0) (c .before .if1 .left),
+    le-ltb (c .before .before .before .before .args .written .0) (c .before .before .before .before .args .reached .0)
+        (c .before .if1 .left),
     lt-ltb
         (c .before .before .before .before .args .left) (c .before .before .before .before .args .units .0) (c .if2 .taken),
   ),
@@ -24,7 +25,8 @@ returns-3 : tie.Need-returns-3
 returns-3 c = (
   refl,
   rw (
-    le-ltb (c .before .before .before .before .args .written .0) (c .before .before .before .before .args .reached .0) (c .before .if1 .left),
+    le-ltb (c .before .before .before .before .args .written .0) (c .before .before .before .before .args .reached .0)
+        (c .before .if1 .left),
     le-ltb
         (c .before .before .before .before .args .left) (c .before .before .before .before .args .units .0) (c .if2 .left),
   ),

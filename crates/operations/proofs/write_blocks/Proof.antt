@@ -21,10 +21,13 @@ copy-blank-requires c κs = search needs
 mul-t12 : tie.Need-mul-t12
 mul-t12 c =
     let given = c .before .before .before .before .before .before .before .before .args in
-    let blocks = c .before .before .copy-blank .result in
+    let copied = c .before .before .copy-blank in
+    let blocks = copied .result in
+    let at = c .before .before .before .before .before .place-of in
     let counted = counted-from (given .g) (given .to) (given .reached) (given .src .now) (given .from .0) (given .dst .now) blocks _ _
-    (c .before .before .before .before .before .place-of .ensures) (c .before .before .before .before .bytes-in .ensures) (c .before .before .copy-blank .ensures .0) in
-    let there = front-there (given .g) (c .before .before .before .before .before .before .before .before .pre .0) (given .to) (given .reached) (given .src .now) (given .from .0) (given .dst .now)
+    (at .ensures) (c .before .before .before .before .bytes-in .ensures) (copied .ensures .0) in
+    let there = front-there (given .g) (c .before .before .before .before .before .before .before .before .pre .0) (given .to)
+    (given .reached) (given .src .now) (given .from .0) (given .dst .now)
     (byteCount (blocks * 512)) counted in
     omega (arith, there .0)
 
@@ -34,13 +37,16 @@ same-length c = search needs
 returns : tie.Need-returns
 returns c =
     let given = c .before .before .before .before .before .before .before .before .args in
-    let blocks = c .before .before .copy-blank .result in
+    let copied = c .before .before .copy-blank in
+    let blocks = copied .result in
+    let at = c .before .before .before .before .before .place-of in
     let counted = counted-from (given .g) (given .to) (given .reached) (given .src .now) (given .from .0) (given .dst .now) blocks _ _
-    (c .before .before .before .before .before .place-of .ensures) (c .before .before .before .before .bytes-in .ensures) (c .before .before .copy-blank .ensures .0) in
-    let there = front-there (given .g) (c .before .before .before .before .before .before .before .before .pre .0) (given .to) (given .reached) (given .src .now) (given .from .0) (given .dst .now)
+    (at .ensures) (c .before .before .before .before .bytes-in .ensures) (copied .ensures .0) in
+    let there = front-there (given .g) (c .before .before .before .before .before .before .before .before .pre .0) (given .to)
+    (given .reached) (given .src .now) (given .from .0) (given .dst .now)
     (byteCount (blocks * 512)) counted in
-    let bytes = c .before .before .copy-blank .ensures .1 ∙ ap (λ (o : Offset). put (given .dst .now) (o .0)
-    (part (given .src .now) (given .from .0) (blocks * 512))) (c .before .before .before .before .before .place-of .ensures) in
+    let bytes = copied .ensures .1 ∙ ap (λ (o : Offset). put (given .dst .now) (o .0)
+    (part (given .src .now) (given .from .0) (blocks * 512))) (at .ensures) in
     (counted, (there, bytes))
 
 pub write-blocks-spec : {M : Type 1} → statement M

@@ -13,7 +13,9 @@ last-sector-requires c κs = search needs
 
 from-sector-requires : tie.Need-from-sector-requires
 from-sector-requires c κs =
-    (c .before .before .pre, omega (arith, ap (λ (i : Sector). i .0) (c .last-sector .ensures), c .before .before .pre))
+    let small = c .before .before .pre in
+    let last = ap (λ (i : Sector). i .0) (c .last-sector .ensures) in
+    (small, omega (arith, last, small))
 
 returns : tie.Need-returns
 unfolding base

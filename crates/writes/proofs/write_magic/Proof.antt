@@ -39,9 +39,21 @@ write-units-requires : tie.Need-write-units-requires
 unfolding base
 write-units-requires c κs =
     let given = c .before .before .before .before .before .before .before .args in
-    let e : c .before .before .before .before .before .magic-place .result .0 ≡ given .g .sector - 16 = ap (λ (o : Offset). o .0) (c .before .before .before .before .before .magic-place .ensures) in
-    let n : c .before .before .units-in .result .0 ≡ 16 / given .g .unit = ap (λ (k : Units). k .0) (c .before .before .units-in .ensures) in
-    (c .before .before .before .before .before .before .before .pre .0, omega (arith, e, n, c .before .before .before .before .unit-in .ensures .1, div-le-self 16 (given .g .unit), c .before .before .before .before .before .before .before .pre .0 .room))
+    let e : c .before .before .before .before .before .magic-place .result .0 ≡ given .g .sector - 16 = ap (λ (o : Offset). o .0)
+    (c .before .before .before .before .before .magic-place .ensures) in
+    let n : c .before .before .units-in .result .0 ≡ 16 / given .g .unit = ap (λ (k : Units). k .0)
+    (c .before .before .units-in .ensures) in (
+      c .before .before .before .before .before .before .before .pre .0,
+      omega (
+        arith,
+        e,
+        n,
+        c .before .before .before .before .unit-in .ensures .1,
+        div-le-self 16
+            (given .g .unit),
+        c .before .before .before .before .before .before .before .pre .0 .room,
+      ),
+    )
 
 same-length : tie.Need-same-length
 same-length c = search needs
@@ -55,9 +67,11 @@ returns c =
     let u = c .before .before .before .before .before .before .before .unit-in .result in
     let bs = c .before .before .before .before .before .before .magic-bytes .result in
     c .before .before .write-units .ensures
-    ∙ ap (λ (k : Units). writeAllIn (given .g) u (k .0) (part bs 0 (bytesIn (given .g) k .0)) l) (c .before .before .before .before .before .units-in .ensures)
+    ∙ ap (λ (k : Units). writeAllIn (given .g) u (k .0) (part bs 0 (bytesIn (given .g) k .0)) l)
+    (c .before .before .before .before .before .units-in .ensures)
     ∙ ap₂ (λ (v : Unit) (ys : List ℕ). writeAllIn (given .g) v (n .0) (part ys 0 (bytesIn (given .g) n .0)) l)
-    (c .before .before .before .before .before .before .before .unit-in .ensures .0 ∙ ap (λ (o : Offset). unitAt (given .g) (after (startOf (given .g) (given .i)) o)) (c .before .before .before .before .before .before .before .before .magic-place .ensures))
+    (c .before .before .before .before .before .before .before .unit-in .ensures .0 ∙ ap (λ (o : Offset). unitAt (given .g) (after (startOf
+    (given .g) (given .i)) o)) (c .before .before .before .before .before .before .before .before .magic-place .ensures))
     (c .before .before .before .before .before .before .magic-bytes .ensures)
     ∙ own-bytes (given .g) (n .0) (unitAt (given .g) (after (startOf (given .g) (given .i)) (magicAt (build (given .g))))) magicBytes l
 

@@ -23,7 +23,9 @@ last-sector-requires c κs = search needs
 
 write-ok-requires : tie.Need-write-ok-requires
 write-ok-requires c κs =
-    (c .pre, omega (arith, ap (λ (i : Sector). i .0) (c .last-sector .ensures), c .pre))
+    let small = c .pre in
+    let last = ap (λ (i : Sector). i .0) (c .last-sector .ensures) in
+    (small, omega (arith, last, small))
 
 written-requires : tie.Need-written-requires
 unfolding base

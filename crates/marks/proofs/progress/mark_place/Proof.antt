@@ -24,19 +24,24 @@ sub-t5 c = search needs
 
 sub-t8 : tie.Need-sub-t8
 sub-t8 c =
-    let f = marks-fit (c .before .before .before .before .before .args .g) (c .before .before .before .before .before .args .k) (c .before .before .before .before .before .pre .0) (omega (arith, c .before .before .before .before .before .pre .1)) in
-    omega (arith, f, ap (λ (b : Bytes). b .0) (c .before .before .before .bytes-in .ensures))
+    let given = c .before .before .before .before .before .args in
+    let pre = c .before .before .before .before .before .pre in
+    let all = ap (λ (b : Bytes). b .0) (c .before .before .before .bytes-in .ensures) in
+    omega (arith, all, marks-fit (given .g) (given .k) (pre .0) (omega (arith, pre .1)))
 
 after-requires : tie.Need-after-requires
 after-requires c κs =
-    let f = marks-fit (c .before .before .before .before .before .args .g) (c .before .before .before .before .before .args .k) (c .before .before .before .before .before .pre .0) (omega (arith, c .before .before .before .before .before .pre .1)) in
-    omega (arith, f, ap (λ (o : Offset). o .0) (c .before .before .place-of .ensures))
+    let given = c .before .before .before .before .before .args in
+    let pre = c .before .before .before .before .before .pre in
+    let place = ap (λ (o : Offset). o .0) (c .before .before .place-of .ensures) in
+    omega (arith, place, marks-fit (given .g) (given .k) (pre .0) (omega (arith, pre .1)))
 
 returns : tie.Need-returns
 unfolding base
 returns c =
-    c .after .ensures
-    ∙ ap₂ (λ (b : Bytes) (o : Offset). after (byteAt (c .before .before .before .before .before .before .args .g .sector - 32 - b .0)) o) (c .before .before .before .before .bytes-in .ensures) (c .before .before .before .place-of .ensures)
+    let s = c .before .before .before .before .before .before .args .g .sector in
+    let all = c .before .before .before .before .bytes-in .ensures in
+    c .after .ensures ∙ ap₂ (λ (b : Bytes) (o : Offset). after (byteAt (s - 32 - b .0)) o) all (c .before .before .before .place-of .ensures)
 
 pub mark-place-spec : {M : Type 1} → statement M
 mark-place-spec =
