@@ -13,14 +13,14 @@ last-sector-requires c κs = search needs
 
 erase-requires : tie.Need-erase-requires
 erase-requires c κs =
-    let small = c .pre in
-    let last = ap (λ (i : Sector). i .0) (c .last-sector .ensures) in
+    let small = c .before .before .before .before .before .pre in
+    let last = ap (λ (i : Sector). i .0) (c .before .last-sector .ensures) in
     (small, omega (arith, last, small))
 
 erase-requires-2 : tie.Need-erase-requires-2
 erase-requires-2 c κs =
-    let small = c .pre in
-    let last = ap (λ (i : Sector). i .0) (c .last-sector .ensures) in
+    let small = c .before .before .before .before .before .before .before .before .before .pre in
+    let last = ap (λ (i : Sector). i .0) (c .before .before .before .before .before .last-sector .ensures) in
     (small, omega (arith, last, small))
 
 line-five-requires : tie.Need-line-five-requires
@@ -41,13 +41,13 @@ same-length-3 c = search needs
 returns : tie.Need-returns
 unfolding base
 returns c =
-    let given = c .args in
-    let last = c .last-sector .ensures in
-    let three = c .erase in
+    let given = c .before .before .before .before .before .before .before .before .before .before .before .before .before .before .before .before .before .before .before .before .args in
+    let last = c .before .before .before .before .before .before .before .before .before .before .before .before .before .before .before .before .last-sector .ensures in
+    let three = c .before .before .before .before .before .before .before .before .before .before .before .before .before .before .erase in
     lines-three-to-six (given .g) (given .lasting) (given .slot0 .now) (given .slot1 .now) (given .scratch .now) (given .run) _ _
     (three .ensures ∙ ap (λ (i : Sector). eraseIn (given .g) i (local (given .slot1 .now) (given .run))) last) _ _
-    (c .erase2 .ensures ∙ ap (λ (i : Sector). eraseIn (given .g) i (local (given .slot0 .now) (three .result))) last) _ _
-    (c .line-five .ensures) _ _ (c .erase3 .ensures)
+    (c .before .before .before .before .before .before .before .before .before .before .erase2 .ensures ∙ ap (λ (i : Sector). eraseIn (given .g) i (local (given .slot0 .now) (three .result))) last) _ _
+    (c .before .before .before .before .before .before .line-five .ensures) _ _ (c .before .before .erase3 .ensures)
 
 pub lines-three-to-six-spec : {M : Type 1} → statement M
 lines-three-to-six-spec =

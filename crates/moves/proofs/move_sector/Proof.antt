@@ -64,16 +64,16 @@ same-length c = search needs
 returns : tie.Need-returns
 unfolding moveIn
 returns c =
-    let given = c .args in
+    let given = c .before .before .before .before .before .before .before .before .before .before .before .before .before .before .args in
     let n : Units = unitsPerSector (given .g) in
-    let erased = c .erase in
+    let erased = c .before .before .before .before .before .before .before .before .before .before .erase in
     let wiped : Local = local (erased .last .1 .0) (erased .result) in
-    let at = c .place-of in
-    let u = c .first-unit2 in
-    let from = at .ensures ∙ ap (placeOf (given .g)) (c .first-unit .ensures) in
-    c .write-units .ensures
+    let at = c .before .before .before .before .before .before .place-of in
+    let u = c .before .before .before .before .before .first-unit2 in
+    let from = at .ensures ∙ ap (placeOf (given .g)) (c .before .before .before .before .before .before .before .first-unit .ensures) in
+    c .before .before .write-units .ensures
     ∙ ap (λ (k : Units). writeAllIn (given .g) (u .result) (k .0)
-    (part (given .src .now) (at .result .0) (bytesIn (given .g) k .0)) wiped) (c .units-per-sector .ensures)
+    (part (given .src .now) (at .result .0) (bytesIn (given .g) k .0)) wiped) (c .before .before .before .before .units-per-sector .ensures)
     ∙ ap₂ (λ (u : Unit) (o : Offset). writeAllIn (given .g) u (n .0) (part (given .src .now) (o .0) (bytesIn (given .g) n .0)) wiped)
     (u .ensures) from
     ∙ ap (writeAllIn (given .g) (firstUnit (given .g) (given .to)) (n .0)

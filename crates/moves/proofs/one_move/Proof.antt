@@ -17,8 +17,8 @@ marked-sector-requires c κs = search needs
 
 move-sector-requires : tie.Need-move-sector-requires
 move-sector-requires c κs =
-    let small = c .pre .0 in
-    let i = ap (λ (i : Sector). i .0) (c .marked-sector .ensures) in
+    let small = c .before .before .before .before .before .before .before .pre .0 in
+    let i = ap (λ (i : Sector). i .0) (c .before .before .before .marked-sector .ensures) in
     (small, (omega (arith, i, small .many), omega (arith, i, small .many)))
 
 same-length : tie.Need-same-length
@@ -40,8 +40,8 @@ returns c =
 
 move-sector-requires-2 : tie.Need-move-sector-requires-2
 move-sector-requires-2 c κs =
-    let small = c .pre .0 in
-    let i = ap (λ (i : Sector). i .0) (c .marked-sector .ensures) in
+    let small = c .before .before .before .before .before .before .before .before .pre .0 in
+    let i = ap (λ (i : Sector). i .0) (c .before .before .before .before .marked-sector .ensures) in
     (small, (omega (arith, i, small .many), omega (arith, i, small .many)))
 
 same-length-3 : tie.Need-same-length-3
@@ -63,8 +63,8 @@ returns-2 c =
 
 move-sector-requires-3 : tie.Need-move-sector-requires-3
 move-sector-requires-3 c κs =
-    let small = c .pre .0 in
-    let i = ap (λ (i : Sector). i .0) (c .marked-sector .ensures) in
+    let small = c .before .before .before .before .before .before .before .before .pre .0 in
+    let i = ap (λ (i : Sector). i .0) (c .before .before .before .before .marked-sector .ensures) in
     (small, (omega (arith, i, small .many), omega (arith, i, small .many)))
 
 same-length-5 : tie.Need-same-length-5

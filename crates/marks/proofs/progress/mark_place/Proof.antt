@@ -41,7 +41,8 @@ unfolding base
 returns c =
     let s = c .before .before .before .before .before .before .args .g .sector in
     let all = c .before .before .before .before .bytes-in .ensures in
-    c .after .ensures ∙ ap₂ (λ (b : Bytes) (o : Offset). after (byteAt (s - 32 - b .0)) o) all (c .before .before .before .place-of .ensures)
+    c .after .ensures ∙ ap₂ (λ (b : Bytes) (o : Offset). after (byteAt (s - 32 - b .0)) o) all
+    (c .before .before .before .place-of .ensures)
 
 pub mark-place-spec : {M : Type 1} → statement M
 mark-place-spec =
