@@ -63,11 +63,12 @@ edges =
     ∷ []
 
 pub edges-hold : Holds edges
-unfolding edges flash answer says ofErased slot small header body digest part put blank same every little field asked fits valid threeMoves allMoves base
-    attempt eraseIn writeIn step steps magicBytes trailer magicOf markOf isGood noMagic isUnset hasValue written legal markBytes headerMagic recordsSize
-    headerSize bodySize coveredSize imageSize sizes head withSizes structure digestAt check isAccepted accepted okOps erases clearOut stepA
-    continue stepB stateC asks judged decide listOf okUnset doneOf foundOf refusalNumber refusalCause doneNumber endNumber offsetNumber
-    outcomeRefusal outcomeCause withOutcome answerNumbers started dataOf bootOf ended carried answered refused onCourse fullStart powerUp
+unfolding edges flash answer says ofErased slot small header body digest part put blank same every little field asked fits valid threeMoves
+    allMoves base attempt eraseIn writeIn step steps magicBytes trailer magicOf markOf isGood noMagic isUnset hasValue written legal
+    markBytes headerMagic recordsSize headerSize bodySize coveredSize imageSize sizes head withSizes structure digestAt check isAccepted
+    accepted okOps erases clearOut stepA continue stepB stateC asks judged decide listOf okUnset doneOf foundOf refusalNumber refusalCause
+    doneNumber endNumber offsetNumber outcomeRefusal outcomeCause withOutcome answerNumbers started dataOf bootOf ended carried answered
+    refused onCourse fullStart powerUp
 edges-hold =
     and refl (and refl (and refl (and refl (and refl (and refl (and refl (and refl (and refl (and refl (and refl
     (and refl (and refl (and refl (and refl no-more))))))))))))))

@@ -143,7 +143,8 @@ module _ (check : List ℕ → Bool) {g : Build} (geo : Geo g) (sound : Sound g)
       let e : decide check g f ≡ Resume c = resumes geo check sound f (a .enough) (omega (arith, a .total)) u in
       let i : inForce check g f ≡ dataOps g c ms = planned f inv (Resume c) e ∙ ap (dataOps g c) (a .left) in (
         i ∙ sym (all-data geo c ms),
-        way f inv (Resume c) (λ d. let z : _≡_ {A = ℕ} 0 1 = cc in omega arith) (dataOps g c ms) i e (rest-short g p c ms (omega (arith, a .total, a .enough)))
+        way f inv (Resume c) (λ d. let z : _≡_ {A = ℕ} 0 1 = cc in omega arith) (dataOps g c ms) i e
+            (rest-short g p c ms (omega (arith, a .total, a .enough)))
             (amid (a .enough) (λ b k l q. h b k (λ m rest r. q m rest (a .left ∙ r)) ∙ a .sectors b k l)),
       )
 
