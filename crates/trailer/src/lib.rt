@@ -39,7 +39,8 @@ pub fn slot_trailer(g: Geometry, slot: &[u8]) -> &[u8]
     requires { ⌜ Small g ⌝ }
     ensures { λ r. ⌜ now r ≡ drop (startOf g (trailerSector (build g) slot0) .0) (now (slot .entry)) ⌝ }
 {
-    from_sector(g, slot, flash::last_sector(g))
+    let last = flash::last_sector(g);
+    from_sector(g, slot, last)
 }
 
 pub fn scratch_trailer(g: Geometry, area: &[u8]) -> &[u8]
