@@ -27,7 +27,8 @@ write-ok-requires c κs =
 erase-requires : tie.Need-erase-requires
 erase-requires c κs =
     let small = c .before .before .before .before .before .before .before .before .before .before .before .before .pre in
-    let last = ap (λ (i : Sector). i .0) (c .before .before .before .before .before .before .before .before .before .last-sector .ensures) in
+    let last = ap (λ (i : Sector). i .0)
+    (c .before .before .before .before .before .before .before .before .before .last-sector .ensures) in
     (small, omega (arith, last, small))
 
 same-length : tie.Need-same-length
@@ -39,7 +40,8 @@ same-length-2 c = search needs
 returns : tie.Need-returns
 unfolding base
 returns c =
-    let given = c .before .before .before .before .before .before .before .before .before .before .before .before .before .before .before .args in
+    let given = c .before .before .before .before .before .before .before .before .before .before .before .before .before .before .before
+    .args in
     let last = c .before .before .before .before .before .before .before .before .before .before .before .before .last-sector .ensures in
     let erased = c .before .before .before .before .before .before .before .before .before .before .erase-sectors in
     let ok = c .before .before .before .before .before .before .write-ok in

@@ -41,12 +41,15 @@ same-length-3 c = search needs
 returns : tie.Need-returns
 unfolding base
 returns c =
-    let given = c .before .before .before .before .before .before .before .before .before .before .before .before .before .before .before .before .before .before .before .before .args in
-    let last = c .before .before .before .before .before .before .before .before .before .before .before .before .before .before .before .before .last-sector .ensures in
+    let given = c .before .before .before .before .before .before .before .before .before .before .before .before .before .before .before
+    .before .before .before .before .before .args in
+    let last = c .before .before .before .before .before .before .before .before .before .before .before .before .before .before .before
+    .before .last-sector .ensures in
     let three = c .before .before .before .before .before .before .before .before .before .before .before .before .before .before .erase in
     lines-three-to-six (given .g) (given .lasting) (given .slot0 .now) (given .slot1 .now) (given .scratch .now) (given .run) _ _
     (three .ensures ∙ ap (λ (i : Sector). eraseIn (given .g) i (local (given .slot1 .now) (given .run))) last) _ _
-    (c .before .before .before .before .before .before .before .before .before .before .erase2 .ensures ∙ ap (λ (i : Sector). eraseIn (given .g) i (local (given .slot0 .now) (three .result))) last) _ _
+    (c .before .before .before .before .before .before .before .before .before .before .erase2 .ensures ∙ ap (λ (i : Sector). eraseIn
+    (given .g) i (local (given .slot0 .now) (three .result))) last) _ _
     (c .before .before .before .before .before .before .line-five .ensures) _ _ (c .before .before .erase3 .ensures)
 
 pub lines-three-to-six-spec : {M : Type 1} → statement M

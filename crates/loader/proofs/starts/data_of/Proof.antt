@@ -19,16 +19,16 @@ least-requires c κs = search needs
 
 slice-aggregate-result : tie.Need-slice-aggregate-result
 slice-aggregate-result c =
-    sym (length-take-le (c .least .result) (c .args .slot .now) (omega
-    (arith, c .least .ensures)))
+    sym (length-take-le (c .before .least .result) (c .before .before .before .before .args .slot .now) (omega
+    (arith, c .before .least .ensures)))
 
 returns : tie.Need-returns
 unfolding dataOf
 returns c =
-    let slot = c .args .slot .now in
-    let n : ℕ = dataBytes (c .args .g) .0 in
-    let cut : c .least .result ≡ min n (length slot) =
-    c .least .ensures ∙ ap (λ (b : Bytes). min (b .0) (length slot)) (c .data-bytes .ensures) in
+    let slot = c .before .before .before .before .args .slot .now in
+    let n : ℕ = dataBytes (c .before .before .before .before .args .g) .0 in
+    let cut : c .before .least .result ≡ min n (length slot) =
+    c .before .least .ensures ∙ ap (λ (b : Bytes). min (b .0) (length slot)) (c .before .before .data-bytes .ensures) in
     ap (λ (k : ℕ). take k slot) cut
     ∙ sym (take-min (length slot) n slot)
     ∙ take-all (length slot) (take n slot) (simp length-take (omega arith))

@@ -23,18 +23,19 @@ last-sector-requires c κs = search needs
 
 write-ok-requires : tie.Need-write-ok-requires
 write-ok-requires c κs =
-    let small = c .pre in
-    let last = ap (λ (i : Sector). i .0) (c .last-sector .ensures) in
+    let small = c .before .before .before .before .before .before .pre in
+    let last = ap (λ (i : Sector). i .0) (c .before .last-sector .ensures) in
     (small, omega (arith, last, small))
 
 written-requires : tie.Need-written-requires
 unfolding base
 written-requires c κs =
-    let given = c .args in
+    let given = c .before .before .before .before .before .before .before .before .before .args in
     left-of (given .g) (okOps (build (given .g)) Area.slot0 true)
-    (state _ [] [] (c .write-ok .result)) 1 (flashOf (given .slot0 .now) [] [])
-    (confirmed-state (given .g) (given .slot0 .now) [] [] 1 _ _ (c .write-ok .ensures
-    ∙ ap (λ (i : Sector). okIn (given .g) i true (local (given .slot0 .now) (going 1))) (c .last-sector .ensures)))
+    (state _ [] [] (c .before .before .write-ok .result)) 1 (flashOf (given .slot0 .now) [] [])
+    (confirmed-state (given .g) (given .slot0 .now) [] [] 1 _ _ (c .before .before .write-ok .ensures
+    ∙ ap (λ (i : Sector). okIn (given .g) i true (local (given .slot0 .now) (going 1)))
+    (c .before .before .before .before .last-sector .ensures)))
 
 refuse-requires : tie.Need-refuse-requires
 refuse-requires c κs = search needs
@@ -45,12 +46,13 @@ same-length c = search needs
 returns : tie.Need-returns
 unfolding base
 returns c =
-    let given = c .args in
+    let given = c .before .before .before .before .before .before .before .before .before .before .args in
     λ x1 x2. confirm-written (given .g) (given .slot0 .now) x1 x2 (c .written .result) _ _
-    (sym (c .is-confirmable .ensures) ∙
-    c .if1 .taken)
-    (c .write-ok .ensures
-    ∙ ap (λ (i : Sector). okIn (given .g) i true (local (given .slot0 .now) (going 1))) (c .last-sector .ensures))
+    (sym (c .before .before .before .before .before .before .before .is-confirmable .ensures) ∙
+    c .before .before .before .before .before .before .if1 .taken)
+    (c .before .before .before .write-ok .ensures
+    ∙ ap (λ (i : Sector). okIn (given .g) i true (local (given .slot0 .now) (going 1)))
+    (c .before .before .before .before .before .last-sector .ensures))
     (c .written .ensures)
 
 same-length-2 : tie.Need-same-length-2
@@ -58,9 +60,9 @@ same-length-2 c = search needs
 
 returns-2 : tie.Need-returns-2
 returns-2 c =
-    let given = c .args in
+    let given = c .before .before .before .before .before .args in
     λ x1 x2. confirm-refused (given .g) (given .slot0 .now) x1 x2 (c .refuse .result)
-    (sym (c .is-confirmable .ensures) ∙ c .if1 .left) (c .refuse .ensures)
+    (sym (c .before .before .is-confirmable .ensures) ∙ c .before .if1 .left) (c .refuse .ensures)
 
 pub confirm-free-spec : {M : Type 1} → statement M
 confirm-free-spec =

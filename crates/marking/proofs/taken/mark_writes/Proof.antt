@@ -16,20 +16,20 @@ units-in-requires c κs = search needs
 
 add-result : tie.Need-add-result
 add-result c =
-    omega (arith, ap (λ (n : Units). n .0) (c .units-in .ensures), div-le-self 16 (c .args .g .unit))
+    omega (arith, ap (λ (n : Units). n .0) (c .before .units-in .ensures), div-le-self 16 (c .before .before .args .g .unit))
 
 returns : tie.Need-returns
 returns c =
-    let n = ap (λ (n : Units). 1 + n .0) (c .units-in .ensures) in
-    n ∙ sym (length-marking (c .args .g) (c .args .permanent)
-    ∙ ap (λ (p : Bool). one-if p + magicUnits (c .args .g) .0) (c .if1 .taken))
+    let n = ap (λ (n : Units). 1 + n .0) (c .before .units-in .ensures) in
+    n ∙ sym (length-marking (c .before .before .args .g) (c .before .before .args .permanent)
+    ∙ ap (λ (p : Bool). one-if p + magicUnits (c .before .before .args .g) .0) (c .if1 .taken))
 
 returns-2 : tie.Need-returns-2
 returns-2 c =
-    let n = ap (λ (n : Units). n .0) (c .units-in .ensures) in
-    let z : 0 + magicUnits (c .args .g) .0 ≡ magicUnits (c .args .g) .0 = omega arith in
-    n ∙ sym (length-marking (c .args .g) (c .args .permanent)
-    ∙ ap (λ (p : Bool). one-if p + magicUnits (c .args .g) .0) (c .if1 .left) ∙ z)
+    let n = ap (λ (n : Units). n .0) (c .before .units-in .ensures) in
+    let z : 0 + magicUnits (c .before .before .args .g) .0 ≡ magicUnits (c .before .before .args .g) .0 = omega arith in
+    n ∙ sym (length-marking (c .before .before .args .g) (c .before .before .args .permanent)
+    ∙ ap (λ (p : Bool). one-if p + magicUnits (c .before .before .args .g) .0) (c .if1 .left) ∙ z)
 
 pub mark-writes-spec : {M : Type 1} → statement M
 mark-writes-spec = tie.close (tie.spec units-in-requires add-result returns returns-2)
