@@ -9,7 +9,6 @@ use Rattle.plan.specs.declared.Done.{Done}
 use Rattle.answers.specs.declared.Refusal.the-variants.{Geometry, Damage, Header, Image, Marks, UnderWay, Needs, Unerased}
 use Rattle.answers.specs.declared.Outcome.{Outcome}
 use Rattle.answers.specs.declared.Ending.{Ending}
-use Rattle.answers.specs.declared.Answer.{Answer}
 use Rattle.answers.specs.declared.numbers.Numbers.{Numbers}
 use Rattle.answers.specs.declared.numbers.MarkNumbers.{MarkNumbers}
 use Rattle.answers.specs.Numbers.{refusalNumber, refusalCause, doneNumber, endNumber, offsetNumber, outcomeRefusal, outcomeCause, endingRefusal}

@@ -12,9 +12,9 @@ use Rattle.fips.specs.Laws.{length-sha256}
 use Rattle.fields.specs.Fields.{little, field}
 use Rattle.records.specs.Records.{Trailing}
 use Rattle.causes.specs.declared.Verdict.the-variants.{Accepted}
-use Rattle.causes.specs.Header.{magicNumber, headerMagic, recordsSize, headerSize, bodySize}
+use Rattle.causes.specs.Header.{headerMagic, recordsSize, headerSize, bodySize}
 use Rattle.causes.specs.Check.{check}
-use Rattle.causes.specs.Image.{laidOne, laid, Lengths, none, more, ofType, Image}
+use Rattle.causes.specs.Image.{laidOne, laid, none, more, ofType, Image}
 use Rattle.causes.specs.Theorem.{accepts-images}
 
 -- "Other header fields are not read": the bytes at 6, 7, 10 and 11, and the sixteen from 16 on

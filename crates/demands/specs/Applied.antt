@@ -1,10 +1,9 @@
 -- Each theorem at the top applied, with the image check itself: its hypotheses can be met, and what it says then is document 01's.
 use mathlib.Core.Path.{_≡_, refl, ap, _∙_}
 use mathlib.Core.List.{List, [], _∷_, _++_}
-use mathlib.Core.Bool.{Bool, true, false}
+use mathlib.Core.Bool.{true}
 use Prim.Native.Nat.{ℕ}
 use native.Mathlib.Omega.{arith}
-use lib.ListN.{length, take, drop, replicate}
 use lib.Seq.{take-at}
 use Rattle.spans.specs.Bytes.{part, put, blank, same}
 use Rattle.spans.specs.Choice.{every}
@@ -29,7 +28,7 @@ use Rattle.demands.specs.Demand1.{demand-1, damage-untouched, misfit-unt
 use Rattle.demands.specs.Demand2.{exchange-of-image, clear-out-of-none}
 use Rattle.demands.specs.Demand3.{demand-3}
 use Rattle.demands.specs.Boots.{boots-what-was-checked}
-use Rattle.demands.specs.Instances.{small, unread, image, image-whole, ending, flash, for-test, for-good, on-trial, test-due, permanent-due, revert-due, harmed, harm-comes}
+use Rattle.demands.specs.Instances.{small, image, image-whole, ending, flash, for-test, for-good, on-trial, test-due, permanent-due, revert-due, harmed, harm-comes}
 
 -- ---- demand 3: the image that was destroyed in slot 1 stands in slot 0, and is booted
 

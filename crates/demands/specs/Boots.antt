@@ -29,11 +29,11 @@ use Rattle.demands.specs.Causes.{at-D, boots}
 use Rattle.demands.specs.Demand2.{exchange-of-image}
 
 -- slot 0's data bytes, once the sectors have changed places, are what slot 1's were
-swapped-data : (g : Geometry) (f f' : Flash) → Swapped (build g) f f' → dataOf g (f' .in0) ≡ dataOf g (f .in1)
+pub swapped-data : (g : Geometry) (f f' : Flash) → Swapped (build g) f f' → dataOf g (f' .in0) ≡ dataOf g (f .in1)
 unfolding dataOf sectorOf base
 swapped-data g f f' s = pieces (g .sector) (g .sectors - 1) (f' .in0) (f .in1) (λ i h. s .to-slot0 (sectorNo i) h)
 
-not-damage : (c : Course) → (c ≡ Damage → ⊥) → isDamage c ≡ false
+pub not-damage : (c : Course) → (c ≡ Damage → ⊥) → isDamage c ≡ false
 unfolding isDamage
 not-damage Damage n = absurd (n refl)
 not-damage (FromLineThree p) n = refl

@@ -23,8 +23,7 @@ use Rattle.causes.specs.declared.Verdict.{Verdict}
 use Rattle.causes.specs.declared.Verdict.the-variants.{Accepted, Rejected}
 use Rattle.causes.specs.Header.{headerSize, coveredSize, recordsArea}
 use Rattle.causes.specs.Check.{numberOf, head, structure, digestAt, check, accepted}
-use Rattle.causes.specs.StructureLaws.{Heads, heads, Sizes, Comes, comes, structure-bad}
-use Rattle.plan.specs.declared.Course.{Course}
+use Rattle.causes.specs.StructureLaws.{Heads, heads, Comes, comes, structure-bad}
 use Rattle.plan.specs.Decision.{decide, inForce}
 use Rattle.answers.specs.declared.Answer.{Answer}
 use Rattle.answers.specs.declared.Refusal.{Refusal}

@@ -20,13 +20,12 @@ use Rattle.causes.specs.Edges.{header, digest}
 use Rattle.plan.specs.declared.Course.{Course}
 use Rattle.plan.specs.Lists.{writes, magicOps, okOps, linesOneTwo, linesThreeToSix, copies, moveOps, dataOps, exchange}
 use Rattle.plan.specs.Decision.{stepA, continue, stepB, stateC, asks, judged, decide, listOf, okUnset, inForce, doneOf, foundOf}
-use Rattle.recovery.specs.Statement.{Due, Exchange, by-test, by-permanent, by-revert, never}
+use Rattle.recovery.specs.Statement.{Due, Exchange, by-test, by-permanent, by-revert}
 use Rattle.answers.specs.declared.Answer.{Answer}
 use Rattle.answers.specs.declared.Outcome.{Outcome}
 use Rattle.answers.specs.declared.numbers.Numbers.{Numbers}
 use Rattle.answers.specs.Numbers.{refusalNumber, refusalCause, doneNumber, endNumber, offsetNumber, outcomeRefusal, outcomeCause, withOutcome, answerNumbers}
 use Rattle.loader.specs.PowerUp.{Result, judgedStart, started, dataOf, bootOf, ended, carried, answered, refused, isDamage, onCourse, fullStart}
-use Rattle.demands.specs.Promise.{met}
 use Rattle.demands.specs.Statement.{asListed}
 use Rattle.demands.specs.AsListed.{as-listed}
 use Rattle.demands.specs.Instances.{small, for-test, for-good, on-trial, test-due, permanent-due, revert-due, in-force}

@@ -1,6 +1,6 @@
 -- Flash for which the hypotheses of the demands hold, with the image check itself: an image in slot 1 (w 1, s 512, n 2), an exchange of each
 -- kind due, and power that fails while slot 1's sector, the image in it, is erased.
-use mathlib.Core.Path.{_≡_, refl, sym, ap, _∙_}
+use mathlib.Core.Path.{_≡_, refl, ap, _∙_}
 use mathlib.Core.List.{List, [], _∷_, _++_}
 use mathlib.Core.Bool.{Bool, true, false}
 use Prim.Native.Nat.{ℕ}

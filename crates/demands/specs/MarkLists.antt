@@ -7,7 +7,7 @@ use Prim.Native.Nat.{ℕ}
 use Rattle.spans.specs.Bytes.{part, blank, same}
 use Rattle.spans.specs.Choice.{pick}
 use Rattle.spans.specs.Laws.{same-eq}
-use Rattle.flash.specs.Build.{Area, Build, Flash, area, with-area, trailerSector}
+use Rattle.flash.specs.Build.{geometry, Area, Build, Flash, area, with-area, trailerSector}
 use Rattle.flash.specs.Operations.{Op, store, apply, runAll}
 use Rattle.flash.specs.AreaLaws.{with-own, store-store}
 use Rattle.trailer.specs.declared.Magic.{Magic}

@@ -1,14 +1,12 @@
 -- Document 01, "Edges to try": what a power-up answers at the starred edges, in document 01's numbers, by computing.
 use mathlib.Core.Path.{refl}
 use mathlib.Core.List.{List, [], _∷_, _++_}
-use mathlib.Core.Bool.{true}
 use Prim.Native.Nat.{ℕ, _*_}
 use lib.ListN.{take}
 use Rattle.spans.specs.Bytes.{part, put, blank, same}
 use Rattle.spans.specs.Choice.{every}
 use Rattle.spans.specs.Table.{Row, row, Holds, no-more, and}
 use Rattle.fields.specs.Fields.{little, field}
-use Rattle.flash.specs.declared.Geometry.{Geometry}
 use Rattle.flash.specs.Build.{Flash, asked, fits, valid}
 use Rattle.flash.specs.Base.{threeMoves, allMoves, base}
 use Rattle.flash.specs.Operations.{attempt, eraseIn, writeIn, step, steps}

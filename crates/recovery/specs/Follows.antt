@@ -238,15 +238,13 @@ module _ (check : List ℕ → Bool) {g : Build} (geo : Geo g) (sound : Sound g)
 
   moves-short : (c : ℕ) (ms : List Move) → NoLonger (per g + 2) (dataChunks geo c ms)
   unfolding dataChunks doneChunk moveChunk
-  moves-short c [] = chunk {c = doneChunk geo} (omega arith) (omega arith) nothing
-  moves-short c (m ∷ ms) =
-      let n = length-move g c m in chunk {c = moveChunk geo c m} (omega arith) (omega arith) (moves-short (suc c) ms)
+  moves-short c [] = chunk {c = doneChunk geo} (omega arith) nothing
+  moves-short c (m ∷ ms) = let n = length-move g c m in chunk {c = moveChunk geo c m} (omega arith) (moves-short (suc c) ms)
 
   chunks-short : NoLonger (per g + 2) chunks
-  unfolding chunks beginChunk settleChunk linesOneTwo linesThreeToSix
+  unfolding chunks beginChunk settleChunk
   chunks-short =
-      chunk {c = beginChunk geo p} (omega arith) (begin-short geo p)
-      (chunk {c = settleChunk geo p} (omega arith) (settling-short geo p) (moves-short 3 (g .moves)))
+      chunk {c = beginChunk geo p} (begin-short geo p) (chunk {c = settleChunk geo p} (settling-short geo p) (moves-short 3 (g .moves)))
 
   length-moves : (c : ℕ) (ms : List Move) → length (dataChunks geo c ms) ≡ suc (length ms)
   unfolding dataChunks

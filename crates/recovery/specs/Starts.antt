@@ -1,7 +1,7 @@
 -- Starts one after the other, each with an allowance of its own: how many it takes until a list that can be taken up again is done.
-use mathlib.Core.Path.{_≡_, refl, sym, ap, _∙_, subst}
+use mathlib.Core.Path.{_≡_, sym, ap, _∙_, subst}
 use mathlib.Core.List.{List, [], _∷_, _++_}
-use Prim.Native.Nat.{ℕ, suc, _+_, _-_, _≤_, _<_}
+use Prim.Native.Nat.{ℕ, _+_, _-_, _≤_, _<_}
 use native.Mathlib.Omega.{arith}
 use native.Mathlib.Decide.{decLe}
 use lib.ListN.{length, length-append}
@@ -16,8 +16,7 @@ use Rattle.recovery.specs.Chunks.{Chunk, allOps, LeftOf, all-left, past,
 -- Starts with these allowances, one after the other, from f: all are stopped but the last, which comes to the end of its list and leaves
 -- `end`. There may be allowances that are no longer needed.
 pub data FinishedBy (g : Build) (plan : Flash → List Op) (end : Flash) : List ℕ → Flash → Type 0 where
-  at-last : {b : ℕ} {bs : List ℕ} {f : Flash} → 0 < length (plan f) → length (plan f) ≤ b → run g b (plan f) f ≡ end
-      → FinishedBy g plan end (b ∷ bs) f
+  at-last : {b : ℕ} {bs : List ℕ} {f : Flash} → length (plan f) ≤ b → run g b (plan f) f ≡ end → FinishedBy g plan end (b ∷ bs) f
   once-more : {b : ℕ} {bs : List ℕ} {f : Flash} → b < length (plan f) → FinishedBy g plan end bs (run g b (plan f) f)
       → FinishedBy g plan end (b ∷ bs) f
 
@@ -27,14 +26,14 @@ pub data AllStopped (g : Build) (plan : Flash → List Op) : List ℕ → Flash 
   once-more-stopped : {b : ℕ} {bs : List ℕ} {f : Flash} → b < length (plan f) → AllStopped g plan bs (run g b (plan f) f)
       → AllStopped g plan (b ∷ bs) f
 
--- each chunk has some operations, and no more than so many
+-- no chunk has more than so many operations
 pub data NoLonger {g : Build} (most : ℕ) : List (Chunk g) → Type 1 where
   nothing : NoLonger most []
-  chunk : {c : Chunk g} {cs : List (Chunk g)} → 0 < length (c .ops) → length (c .ops) ≤ most → NoLonger most cs → NoLonger most (c ∷ cs)
+  chunk : {c : Chunk g} {cs : List (Chunk g)} → length (c .ops) ≤ most → NoLonger most cs → NoLonger most (c ∷ cs)
 
 no-longer : {g : Build} {most : ℕ} {cs ds : List (Chunk g)} → LeftOf cs ds → NoLonger most ds → NoLonger most cs
 no-longer all-left n = n
-no-longer (past l) (chunk o h n) = no-longer l n
+no-longer (past l) (chunk h n) = no-longer l n
 
 fewer : {g : Build} {cs ds : List (Chunk g)} → LeftOf cs ds → length cs ≤ length ds
 fewer all-left = omega arith
@@ -67,7 +66,7 @@ module _ {g : Build} (plan : Flash → List Op) (Inv Holds : Flash → Type 0)
       → NoLonger most (c ∷ cs) → length (c ∷ cs) ≤ length bs → FinishedBy g plan end bs f
   unfolding allOps
   finishes [] none good like inv e short l = absurd (omega arith)
-  finishes (b ∷ bs) (one h hs) {c} {cs} {clean} {f} {end} good like inv e (chunk o m n) l =
+  finishes (b ∷ bs) (one h hs) {c} {cs} {clean} {f} {end} good like inv e (chunk m n) l =
       go (decLe (length all) b) (λ f' s. finishes bs hs (s .good) (s .like) (s .inv) (s .ends) (no-longer (s .left) n)
       (omega (arith, fewer (s .left))))
     where
@@ -87,8 +86,7 @@ module _ {g : Build} (plan : Flash → List Op) (Inv Holds : Flash → Type 0)
       go (yes enough) ih =
           let l : length (plan f) ≤ b = rw planned enough in
           let r : run g b (plan f) f ≡ end = rw planned (run-all g b all f enough ∙ works) in
-          let some : 0 < length (plan f) = rw (planned, length-append (c .ops) (allOps cs)) (omega arith) in
-          at-last some l r
+          at-last l r
       go (no short) ih =
           let l : b < length (plan f) = rw planned (omega arith) in
           let r : FinishedBy g plan end bs (run g b (plan f) f) =
