@@ -27,18 +27,11 @@ use Rattle.recovery.specs.Starts.{FinishedBy, at-last, once-more}
 use Rattle.recovery.specs.LeastAllowance as recovery
 use Rattle.answers.specs.declared.Outcome.{Outcome}
 use Rattle.loader.specs.PowerUp.{Result, started, dataOf, bootOf, fullStart}
-use Rattle.demands.specs.Statement.{asListed}
+use Rattle.demands.specs.Statement.{asListed, Starts, the-last, stopped}
 use Rattle.demands.specs.AsListed.{sound, as-listed}
 use Rattle.demands.specs.Causes.{at-D, boots}
 use Rattle.demands.specs.Demand2.{exchange-of-image}
 use Rattle.demands.specs.Boots.{swapped-data, not-damage}
-
--- Starts with these allowances, one after the other, from f: all answer Stopped but the last, which answers `outcome` and leaves `end`.
-pub data Starts (checked : Bool) (g : Geometry) (outcome : Outcome) (end : Flash) : List ℕ → Flash → Type 0 where
-  the-last : {b : ℕ} {bs : List ℕ} {f : Flash} → fullStart checked g b f .answer .outcome ≡ outcome
-      → fullStart checked g b f .flash ≡ end → Starts checked g outcome end (b ∷ bs) f
-  stopped : {b : ℕ} {bs : List ℕ} {f : Flash} → fullStart checked g b f .answer .outcome ≡ Outcome.Stopped
-      → Starts checked g outcome end bs (fullStart checked g b f .flash) → Starts checked g outcome end (b ∷ bs) f
 
 -- as an exchange that was never cut
 abbrev exchanged : Geometry → Bool → Flash → Flash

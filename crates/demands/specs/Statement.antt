@@ -1,6 +1,7 @@
--- What the theorems about a power-up speak of: how it ends, its answer by the list in force, and refusals 3 and 4 by their causes.
+-- What the theorems about a power-up speak of: how it ends, its answer by the list in force, refusals 3 and 4 by their causes, and starts one
+-- after the other.
 use mathlib.Core.Path.{_≡_}
-use mathlib.Core.List.{List}
+use mathlib.Core.List.{List, _∷_}
 use mathlib.Core.Bool.{Bool, true}
 use Prim.Native.Nat.{ℕ, _≤_, min}
 use lib.ListN.{length}
@@ -19,7 +20,7 @@ use Rattle.answers.specs.declared.Answer.{Answer}
 use Rattle.answers.specs.declared.Refusal.{Refusal}
 use Rattle.answers.specs.declared.Outcome.{Outcome}
 use Rattle.answers.specs.Numbers.{refusalNumber}
-use Rattle.loader.specs.PowerUp.{Result, bootOf}
+use Rattle.loader.specs.PowerUp.{Result, bootOf, fullStart}
 
 -- a boot offset, a stop, or a refusal numbered 1 to 4
 pub data Ends : Outcome → Type 0 where
@@ -60,3 +61,10 @@ pub record ToD (a : Answer) : Type 0 where
   pub taken : a .outcome ≡ Outcome.Refused Refusal.Geometry → ⊥
   pub undamaged : a .outcome ≡ Outcome.Refused Refusal.Damage → ⊥
   pub allowed : a .outcome ≡ Outcome.Stopped → ⊥
+
+-- Starts with these allowances, one after the other, from f: all answer Stopped but the last, which answers `outcome` and leaves `end`.
+pub data Starts (checked : Bool) (g : Geometry) (outcome : Outcome) (end : Flash) : List ℕ → Flash → Type 0 where
+  the-last : {b : ℕ} {bs : List ℕ} {f : Flash} → fullStart checked g b f .answer .outcome ≡ outcome
+      → fullStart checked g b f .flash ≡ end → Starts checked g outcome end (b ∷ bs) f
+  stopped : {b : ℕ} {bs : List ℕ} {f : Flash} → fullStart checked g b f .answer .outcome ≡ Outcome.Stopped
+      → Starts checked g outcome end bs (fullStart checked g b f .flash) → Starts checked g outcome end (b ∷ bs) f

@@ -20,7 +20,7 @@ use Rattle.recovery.specs.All.{All, none, one, one-less}
 use Rattle.recovery.specs.Cuts.{runAll-append}
 use Rattle.recovery.specs.Windows.{hidden-run, hidden-cut, all-lengths}
 use Rattle.recovery.specs.Places.{Geo, Sized, per}
-use Rattle.recovery.specs.Statement.{Sound, Proper, Failures, Exchange, by-test, by-permanent, by-revert, sectorOf, sameSector}
+use Rattle.recovery.specs.Statement.{Sound, Proper, Failures, AllStopped, Exchange, by-test, by-permanent, by-revert, sectorOf, sameSector}
 use Rattle.recovery.specs.Count.{rest-short, settle-short, length-move, begin-short, settling-short}
 use Rattle.recovery.specs.Hiding.{hidden-begin}
 use Rattle.recovery.specs.Begin.{sized-run, begun, trailer-begin, begun-good, step-A}
@@ -30,7 +30,7 @@ use Rattle.recovery.specs.Sectors.{moved, moved-append, moved-same, sect
 use Rattle.recovery.specs.MoveRun.{sector-step, sector-settled}
 use Rattle.recovery.specs.Validity.{valid-same}
 use Rattle.recovery.specs.Chunks.{Chunk, allOps, Good, over, first, taken-up}
-use Rattle.recovery.specs.Starts.{FinishedBy, AllStopped, NoLonger, nothing, chunk, finishes-after, never-finishes}
+use Rattle.recovery.specs.Starts.{FinishedBy, NoLonger, nothing, chunk, finishes-after, never-finishes}
 use Rattle.recovery.specs.Stages.{BeginLike, beginChunk, settleChunk, moveChunk, doneChunk, dataChunks, all-data}
 
 -- ---- what holds on the way

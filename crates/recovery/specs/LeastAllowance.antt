@@ -17,9 +17,9 @@ use Rattle.plan.specs.Lists.{linesOneTwo, linesThreeToSix, exchange}
 use Rattle.plan.specs.Decision.{inForce}
 use Rattle.recovery.specs.All.{All}
 use Rattle.recovery.specs.Places.{per}
-use Rattle.recovery.specs.Statement.{Failures, Due, Sound}
+use Rattle.recovery.specs.Statement.{Failures, AllStopped, Due, Sound}
 use Rattle.recovery.specs.Validity.{Valid, of-valid}
-use Rattle.recovery.specs.Starts.{FinishedBy, AllStopped}
+use Rattle.recovery.specs.Starts.{FinishedBy}
 use Rattle.recovery.specs.Follows.{follows-on, stays-behind}
 use Rattle.recovery.specs.NeverLost.{quiet}
 use Rattle.recovery.specs.BaseMoves.{base-sound}

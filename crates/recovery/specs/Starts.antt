@@ -10,7 +10,7 @@ use Rattle.flash.specs.Operations.{Op, run, runAll}
 use Rattle.flash.specs.Harm.{Cut}
 use Rattle.recovery.specs.All.{All, none, one}
 use Rattle.recovery.specs.Cuts.{run-all, run-past, run-within, stopped-cut, runAll-append}
-use Rattle.recovery.specs.Statement.{Failures}
+use Rattle.recovery.specs.Statement.{Failures, AllStopped, no-more, once-more-stopped}
 use Rattle.recovery.specs.Chunks.{Chunk, allOps, LeftOf, all-left, past, Good, Stage, begins, plans, later-on, cut-chunks, stage}
 
 -- Starts with these allowances, one after the other, from f: all are stopped but the last, which comes to the end of its list and leaves
@@ -19,12 +19,6 @@ pub data FinishedBy (g : Build) (plan : Flash → List Op) (end : Flash) : List 
   at-last : {b : ℕ} {bs : List ℕ} {f : Flash} → length (plan f) ≤ b → run g b (plan f) f ≡ end → FinishedBy g plan end (b ∷ bs) f
   once-more : {b : ℕ} {bs : List ℕ} {f : Flash} → b < length (plan f) → FinishedBy g plan end bs (run g b (plan f) f)
       → FinishedBy g plan end (b ∷ bs) f
-
--- starts with these allowances are all stopped
-pub data AllStopped (g : Build) (plan : Flash → List Op) : List ℕ → Flash → Type 0 where
-  no-more : {f : Flash} → AllStopped g plan [] f
-  once-more-stopped : {b : ℕ} {bs : List ℕ} {f : Flash} → b < length (plan f) → AllStopped g plan bs (run g b (plan f) f)
-      → AllStopped g plan (b ∷ bs) f
 
 -- no chunk has more than so many operations
 pub data NoLonger {g : Build} (most : ℕ) : List (Chunk g) → Type 1 where

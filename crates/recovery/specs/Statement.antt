@@ -1,6 +1,6 @@
 -- What demand 3 speaks of: power failures during an exchange, exchanges that are due, and builds for which all of it is proved.
 use mathlib.Core.Path.{_≡_}
-use mathlib.Core.List.{List}
+use mathlib.Core.List.{List, [], _∷_}
 use mathlib.Core.Bool.{Bool, true, false, _&&_}
 use Prim.Native.Nat.{ℕ, _≤_, _<_, _+_, _*_, _-_}
 use lib.ListN.{length}
@@ -24,6 +24,12 @@ use Rattle.recovery.specs.All.{All}
 pub data Failures (g : Build) (plan : Flash → List Op) (f : Flash) : Flash → Type 0 where
   never : Failures g plan f f
   again : {f₁ f₂ : Flash} → Failures g plan f f₁ → Cut g (plan f₁) f₁ f₂ → Failures g plan f f₂
+
+-- power-ups with these allowances, one after the other from f, are all stopped
+pub data AllStopped (g : Build) (plan : Flash → List Op) : List ℕ → Flash → Type 0 where
+  no-more : {f : Flash} → AllStopped g plan [] f
+  once-more-stopped : {b : ℕ} {bs : List ℕ} {f : Flash} → b < length (plan f) → AllStopped g plan bs (run g b (plan f) f)
+      → AllStopped g plan (b ∷ bs) f
 
 -- the courses that are exchanges, and "p being 1 for permanent and revert and 0 for test"
 pub data Exchange : Course → Bool → Type 0 where
