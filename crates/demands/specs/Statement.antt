@@ -1,7 +1,7 @@
 -- What the theorems about a power-up speak of: how it ends, its answer by the list in force, refusals 3 and 4 by their causes, and starts one
 -- after the other.
 use mathlib.Core.Path.{_≡_}
-use mathlib.Core.List.{List, _∷_}
+use mathlib.Core.List.{List, [], _∷_}
 use mathlib.Core.Bool.{Bool, true}
 use Prim.Native.Nat.{ℕ, _≤_, min}
 use lib.ListN.{length}
@@ -68,3 +68,9 @@ pub data Starts (checked : Bool) (g : Geometry) (outcome : Outcome) (end : Flash
       → fullStart checked g b f .flash ≡ end → Starts checked g outcome end (b ∷ bs) f
   stopped : {b : ℕ} {bs : List ℕ} {f : Flash} → fullStart checked g b f .answer .outcome ≡ Outcome.Stopped
       → Starts checked g outcome end bs (fullStart checked g b f .flash) → Starts checked g outcome end (b ∷ bs) f
+
+-- starts with these allowances, one after the other from f, all answer Stopped
+pub data AllStop (checked : Bool) (g : Geometry) : List ℕ → Flash → Type 0 where
+  no-start : {f : Flash} → AllStop checked g [] f
+  stops-too : {b : ℕ} {bs : List ℕ} {f : Flash} → fullStart checked g b f .answer .outcome ≡ Outcome.Stopped
+      → AllStop checked g bs (fullStart checked g b f .flash) → AllStop checked g (b ∷ bs) f

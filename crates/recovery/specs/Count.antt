@@ -36,26 +36,19 @@ pub settle-short : (g : Build) (p : Bool) → length (linesThreeToSix g p ++ dat
 unfolding exchange
 settle-short g p = simp length-append (omega arith)
 
--- ---- the parts of an exchange that a cut takes up again from their beginning: none is longer than a move with its mark
+-- ---- the parts of an exchange that a cut takes up again from their beginning
 
 pub length-move : (g : Build) (c : ℕ) (m : Move) → length (moveOps g m ++ (progress g c ∷ [])) ≡ per g + 2
 unfolding moveOps
 length-move g c m = simp (length-append, length-copies) (omega arith)
 
-module _ {g : Build} (geo : Geo g) where
-  -- a sector has room for three marks of each sector, and for magic, image ok and copy done
-  roomy : 6 + 2 * (magicUnits (geometry g) .0) ≤ per g
-  roomy =
-      let w : ℕ = g .unit in
-      let d : 16 / w * w ≡ 16 = div-mul-cancel w (dvd-mul-left-of-dvd w (geo .eight) 2) in
-      let s : per g * w ≡ g .sector = div-mul-cancel w (geo .whole) in
-      let n : 6 * w ≤ 3 * g .sectors * w = mul-le-mul-right w (omega (arith, geo .two)) in
-      le-of-mul-le-mul-right {k = w} (omega (arith, geo .room)) (geo .positive)
-
-  pub begin-short : (p : Bool) → length (linesOneTwo g p) ≤ per g + 2
-  unfolding linesOneTwo
-  begin-short p = simp (length-append, length-ok, length-magic) (omega (arith, roomy, at-most-one p))
-
-  pub settling-short : (p : Bool) → length (linesThreeToSix g p) ≤ per g + 2
-  unfolding linesThreeToSix
-  settling-short p = simp (length-append, length-ok, length-magic) (omega (arith, roomy, at-most-one p))
+-- the six lines of the trailer exchange together are shorter than a move with its mark
+pub trailers-short : {g : Build} → Geo g → 384 * g .unit + 32 ≤ g .sector → (p : Bool)
+    → length (linesOneTwo g p) + length (linesThreeToSix g p) ≤ per g + 2
+unfolding linesOneTwo linesThreeToSix
+trailers-short {g} geo large p =
+    let w : ℕ = g .unit in
+    let d : 16 / w * w ≡ 16 = div-mul-cancel w (dvd-mul-left-of-dvd w (geo .eight) 2) in
+    let s : per g * w ≡ g .sector = div-mul-cancel w (geo .whole) in
+    let room : 384 + 2 * (16 / w) ≤ per g = le-of-mul-le-mul-right {k = w} (omega arith) (geo .positive) in
+    simp (length-append, length-ok, length-magic) (omega (arith, at-most-one p))

@@ -20,8 +20,8 @@ use Rattle.recovery.specs.All.{All, none, one, one-less}
 use Rattle.recovery.specs.Cuts.{runAll-append}
 use Rattle.recovery.specs.Windows.{hidden-run, hidden-cut, all-lengths}
 use Rattle.recovery.specs.Places.{Geo, Sized, per}
-use Rattle.recovery.specs.Statement.{Sound, Proper, Failures, AllStopped, Exchange, by-test, by-permanent, by-revert, sectorOf, sameSector}
-use Rattle.recovery.specs.Count.{rest-short, settle-short, length-move, begin-short, settling-short}
+use Rattle.recovery.specs.Statement.{Sound, Proper, Failures, FinishedBy, AllStopped, Exchange, by-test, by-permanent, by-revert, sectorOf, sameSector}
+use Rattle.recovery.specs.Count.{rest-short, settle-short, length-move, trailers-short}
 use Rattle.recovery.specs.Hiding.{hidden-begin}
 use Rattle.recovery.specs.Begin.{sized-run, begun, trailer-begin, begun-good, step-A}
 use Rattle.recovery.specs.Settling.{Under, wipeBoth, settled}
@@ -30,7 +30,8 @@ use Rattle.recovery.specs.Sectors.{moved, moved-append, moved-same, sect
 use Rattle.recovery.specs.MoveRun.{sector-step, sector-settled}
 use Rattle.recovery.specs.Validity.{valid-same}
 use Rattle.recovery.specs.Chunks.{Chunk, allOps, Good, over, first, taken-up}
-use Rattle.recovery.specs.Starts.{FinishedBy, NoLonger, nothing, chunk, finishes-after, never-finishes}
+use Rattle.recovery.specs.Starts.{Within, nothing, chunk, two, HasLong, this, another, LongToLast, last, earlier, finishes-after}
+use Rattle.recovery.specs.Starts.{never-finishes-after}
 use Rattle.recovery.specs.Stages.{BeginLike, beginChunk, settleChunk, moveChunk, doneChunk, dataChunks, all-data}
 
 -- ---- what holds on the way
@@ -234,41 +235,38 @@ module _ (check : List ℕ → Bool) {g : Build} (geo : Geo g) (sound : Sound g)
   follows fs =
       rw (← all-exchange) (taken-up (inForce check g) (SameLengths f₀) (Way check g p f₀) keeps good-exchange (λ a. refl) fs)
 
-  -- ---- starts one after the other, each with an allowance for a move and its mark
+  -- ---- starts one after the other
 
-  moves-short : (c : ℕ) (ms : List Move) → NoLonger (per g + 2) (dataChunks geo c ms)
+  -- with an allowance for a move and its mark: one for the trailer exchange, one for each move, one for copy done
+  moves-within : (c : ℕ) (ms : List Move) → Within (per g + 2) (dataChunks geo c ms) (suc (length ms))
   unfolding dataChunks doneChunk moveChunk
-  moves-short c [] = chunk {c = doneChunk geo} (omega arith) nothing
-  moves-short c (m ∷ ms) = let n = length-move g c m in chunk {c = moveChunk geo c m} (omega arith) (moves-short (suc c) ms)
+  moves-within c [] = chunk {c = doneChunk geo} (omega arith) nothing
+  moves-within c (m ∷ ms) = let n = length-move g c m in chunk {c = moveChunk geo c m} (omega arith) (moves-within (suc c) ms)
 
-  chunks-short : NoLonger (per g + 2) chunks
-  unfolding chunks beginChunk settleChunk
-  chunks-short =
-      chunk {c = beginChunk geo p} (begin-short geo p) (chunk {c = settleChunk geo p} (settling-short geo p) (moves-short 3 (g .moves)))
-
-  length-moves : (c : ℕ) (ms : List Move) → length (dataChunks geo c ms) ≡ suc (length ms)
-  unfolding dataChunks
-  length-moves c [] = refl
-  length-moves c (m ∷ ms) = ap suc (length-moves (suc c) ms)
-
-  pub follows-on : {f : Flash} → Failures g (inForce check g) f₀ f → (bs : List ℕ) → All (λ (b : ℕ). per g + 2 ≤ b) bs
-      → length (g .moves) + 3 ≤ length bs → FinishedBy g (inForce check g) (runAll g (exchange g p) f₀) bs f
-  unfolding chunks SameLengths
-  follows-on fs bs hs l =
+  pub follows-on : 384 * g .unit + 32 ≤ g .sector → {f : Flash} → Failures g (inForce check g) f₀ f
+      → (bs : List ℕ) → All (λ (b : ℕ). per g + 2 ≤ b) bs → length (g .moves) + 2 ≤ length bs
+      → FinishedBy g (inForce check g) (runAll g (exchange g p) f₀) bs f
+  unfolding chunks beginChunk settleChunk SameLengths
+  follows-on large fs bs hs l =
       rw (← all-exchange) (finishes-after (inForce check g) (SameLengths f₀) (Way check g p f₀) keeps (per g + 2) good-exchange
-      (λ a. refl) chunks-short fs bs hs (omega (arith, length-moves 3 (g .moves))))
+      (λ a. refl) (two {c = beginChunk geo p} {d = settleChunk geo p} (trailers-short geo large p) (moves-within 3 (g .moves)))
+      fs bs hs (omega arith))
 
-  -- with fewer than that, none comes past the first move once the trailer exchange is done
-  pub stays-behind : {m : Move} {ms : List Move} → g .moves ≡ m ∷ ms → (bs : List ℕ) → All (λ (b : ℕ). b < per g + 2) bs
-      → AllStopped g (inForce check g) bs (runAll g (linesThreeToSix g p) (runAll g (linesOneTwo g p) f₀))
-  unfolding SameLengths started dataChunks moveChunk
-  stays-behind {m} {ms} e bs hs =
-      let good : Good (inForce check g) (SameLengths f₀) (Way check g p f₀) keeps (dataChunks geo 3 (m ∷ ms))
-      (runAll g (linesThreeToSix g p) started) = subst (λ (x : List Move). Good (inForce check g) (SameLengths f₀) (Way check g p f₀)
-      keeps (dataChunks geo 3 x) (runAll g (linesThreeToSix g p) started)) e (good-moves (g .moves) settled-at) in
-      never-finishes (inForce check g) (SameLengths f₀) (Way check g p f₀) keeps (per g + 2) bs good (rw (length-move g 3 m) hs) refl
-      (λ a. all-same a)
-    where
-      all-same : (a : Area) → length (area a (runAll g (linesThreeToSix g p) started)) ≡ length (area a f₀)
-      all-same a =
-          hidden-run (all-lengths g a (linesThreeToSix g p)) started ∙ hidden-run (all-lengths g a (linesOneTwo g p)) f₀
+  -- with fewer: as long as a move is left, none comes past it
+  moves-long : (c : ℕ) (ms : List Move) → LongToLast (per g + 1) (dataChunks geo c ms)
+  unfolding dataChunks doneChunk moveChunk
+  moves-long c [] = last {c = doneChunk geo} (omega arith)
+  moves-long c (m ∷ ms) =
+      let n = length-move g c m in earlier (this {c = moveChunk geo c m} (omega arith)) (moves-long (suc c) ms)
+
+  pub follows-never : {m : Move} {ms : List Move} → g .moves ≡ m ∷ ms → {f : Flash} → Failures g (inForce check g) f₀ f
+      → 1 < length (inForce check g f) → (bs : List ℕ) → All (λ (b : ℕ). b ≤ per g + 1) bs → AllStopped g (inForce check g) bs f
+  unfolding chunks beginChunk settleChunk SameLengths dataChunks moveChunk
+  follows-never {m} {ms} e fs l bs hs =
+      let n = length-move g 3 m in
+      let a-move : HasLong (per g + 1) (dataChunks geo 3 (g .moves)) =
+      subst (λ (x : List Move). HasLong (per g + 1) (dataChunks geo 3 x)) (sym e)
+      (this {c = moveChunk geo 3 m} {cs = dataChunks geo 4 ms} (omega arith)) in
+      never-finishes-after (inForce check g) (SameLengths f₀) (Way check g p f₀) keeps (per g + 1) good-exchange (λ a. refl)
+      (earlier (another {c = beginChunk geo p} (another {c = settleChunk geo p} a-move))
+      (earlier (another {c = settleChunk geo p} a-move) (moves-long 3 (g .moves)))) fs l bs hs

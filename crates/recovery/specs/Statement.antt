@@ -25,6 +25,13 @@ pub data Failures (g : Build) (plan : Flash → List Op) (f : Flash) : Flash →
   never : Failures g plan f f
   again : {f₁ f₂ : Flash} → Failures g plan f f₁ → Cut g (plan f₁) f₁ f₂ → Failures g plan f f₂
 
+-- Power-ups with these allowances, one after the other from f: all are stopped but the last, which comes to the end of its list and
+-- leaves `end`. There may be allowances that are no longer needed.
+pub data FinishedBy (g : Build) (plan : Flash → List Op) (end : Flash) : List ℕ → Flash → Type 0 where
+  at-last : {b : ℕ} {bs : List ℕ} {f : Flash} → length (plan f) ≤ b → run g b (plan f) f ≡ end → FinishedBy g plan end (b ∷ bs) f
+  once-more : {b : ℕ} {bs : List ℕ} {f : Flash} → b < length (plan f) → FinishedBy g plan end bs (run g b (plan f) f)
+      → FinishedBy g plan end (b ∷ bs) f
+
 -- power-ups with these allowances, one after the other from f, are all stopped
 pub data AllStopped (g : Build) (plan : Flash → List Op) : List ℕ → Flash → Type 0 where
   no-more : {f : Flash} → AllStopped g plan [] f

@@ -23,6 +23,7 @@ units =
 
 pub record Valid (g : Build) (f : Flash) : Type 0 where
   pub geo : Geo g
+  pub large : 384 * g .unit + 32 ≤ g .sector
   pub sized : (a : Area) → Sized g a f
 
 pub of-valid : (g : Build) (f : Flash) → valid g f ≡ true → Valid g f
@@ -46,6 +47,7 @@ of-valid g f h = go (every-all (asked g (length (f .in0)) (length (f .in1)) (len
             room = omega (arith, leb-true (384 * g .unit + 32) (g .sector) lo, many);
             two = two;
           };
+          large = leb-true (384 * g .unit + 32) (g .sector) lo;
           sized = elim [
             | slot0 ↦ last (g .sectors - 1) (f .in0) (eqb-true (length (f .in0)) (slotBytes (geometry g) .0) l₀ ∙ n)
             | slot1 ↦ last (g .sectors - 1) (f .in1) (eqb-true (length (f .in1)) (slotBytes (geometry g) .0) l₁ ∙ n)
