@@ -1,5 +1,5 @@
--- DEMAND 2, the image: what a power-up exchanges is an image, what it clears out is none, and what it boots after an exchange is the
--- image that was checked. (That the check accepts exactly images is `accepts-images` and `accepts-only-images` of crate image.)
+-- DEMAND 2, the image: what a power-up exchanges is an image, what it clears out is none. (That the check accepts exactly images is
+-- `accepts-images` and `accepts-only-images` of crate causes, Theorem.antt; what is booted after an exchange, Boots.antt.)
 use mathlib.Core.Path.{_≡_, refl, sym, ap, _∙_}
 use mathlib.Core.List.{List}
 use mathlib.Core.Bool.{Bool, true, false, _&&_, not, false≢true}

@@ -12,7 +12,7 @@ use Rattle.flash.specs.Operations.{Op, store, apply, runAll}
 use Rattle.flash.specs.AreaLaws.{with-own, store-store}
 use Rattle.trailer.specs.declared.Magic.{Magic}
 use Rattle.trailer.specs.Trailer.{trailer, magicAt, okAt, magicBytes, magicOf, noMagic, markOf, markBytes, isUnset, magicUnits}
-use Rattle.plan.specs.Lists.{trailerUnit, mark, okOps, magicOps}
+use Rattle.plan.specs.Lists.{placeIn, trailerUnit, mark, okOps, magicOps}
 use Rattle.recovery.specs.All.{All, none, one, all-append}
 use Rattle.recovery.specs.Windows.{Hidden, hidden-run}
 use Rattle.recovery.specs.Places.{Geo, unit-back, magic-unit, magic-units, ok-unit, writes-all}
@@ -22,7 +22,7 @@ use Rattle.recovery.specs.Sectors.{sector-unwiped}
 use Rattle.recovery.specs.Named.{Only, trailerOf}
 use Rattle.recovery.specs.Begin.{trailer-ok}
 use Rattle.recovery.specs.Fresh.{Fresh, fresh-append, fresh-ok, fresh-magic, magic-behind-ok}
-use Rattle.demands.specs.MarkStatement.{placeIn, okPut, magicPut}
+use Rattle.demands.specs.MarkStatement.{okPut, magicPut}
 
 -- magic that is read as Unset is erased
 no-magic-blank : (g : Build) (t : List ℕ) → noMagic (magicOf g t) ≡ true → part t (magicAt g .0) 16 ≡ blank 16
@@ -48,13 +48,13 @@ module _ {g : Build} (geo : Geo g) (a : Area) (p : Bool) (f : Flash) where
 
 -- what is written into an area
 module _ {g : Build} (geo : Geo g) (a : Area) where
-  run-magic : (f : Flash) → runAll g (magicOps g a) f ≡ store a (placeIn g a (magicAt g)) magicBytes f
+  run-magic : (f : Flash) → runAll g (magicOps g a) f ≡ store a (placeIn g a (magicAt g) .0) magicBytes f
   unfolding magicOps magicBytes
   run-magic f =
       writes-all g a (trailerUnit g a (magicAt g)) (magicUnits (geometry g) .0) magicBytes f (sym (magic-units geo))
       ∙ ap (λ (x : ℕ). store a x magicBytes f) (unit-back geo a (magicAt g) (magic-unit geo))
 
-  mark-ok : (f : Flash) → apply g (mark g a (okAt g) 1) f ≡ store a (placeIn g a (okAt g)) (markBytes g 1) f
+  mark-ok : (f : Flash) → apply g (mark g a (okAt g) 1) f ≡ store a (placeIn g a (okAt g) .0) (markBytes g 1) f
   unfolding apply
   mark-ok f = ap (λ (x : ℕ). store a x (markBytes g 1) f) (unit-back geo a (okAt g) (ok-unit geo))
 
@@ -66,8 +66,8 @@ module _ {g : Build} (geo : Geo g) (a : Area) where
   pub run-marking : (p : Bool) (f : Flash) → runAll g (okOps g a p ++ magicOps g a) f ≡ with-area a f (magicPut g a (okPut g a p (area a f)))
   unfolding okOps okPut magicPut runAll
   run-marking true f =
-      run-magic (apply g (mark g a (okAt g) 1) f) ∙ ap (store a (placeIn g a (magicAt g)) magicBytes) (mark-ok f)
-      ∙ store-store a (placeIn g a (okAt g)) (placeIn g a (magicAt g)) (markBytes g 1) magicBytes f
+      run-magic (apply g (mark g a (okAt g) 1) f) ∙ ap (store a (placeIn g a (magicAt g) .0) magicBytes) (mark-ok f)
+      ∙ store-store a (placeIn g a (okAt g) .0) (placeIn g a (magicAt g) .0) (markBytes g 1) magicBytes f
   run-marking false f = run-magic f
 
 -- and what is not: sectors other than the area's trailer sector are as they were

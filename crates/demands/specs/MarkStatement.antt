@@ -7,13 +7,12 @@ use lib.Dec.{eqb}
 use Rattle.spans.specs.Bytes.{put}
 use Rattle.spans.specs.Choice.{pick}
 use Rattle.flash.specs.declared.Geometry.{Geometry}
-use Rattle.flash.specs.declared.Offset.{Offset}
-use Rattle.flash.specs.Geometry.{startOf, after}
-use Rattle.flash.specs.Build.{Area, Build, geometry, trailerSector, Flash, valid}
+use Rattle.flash.specs.Build.{Area, Build, Flash, valid}
 use Rattle.flash.specs.Base.{build}
 use Rattle.trailer.specs.Trailer.{magicBytes, magicAt, okAt, markBytes}
 use Rattle.plan.specs.declared.Course.{Course}
 use Rattle.plan.specs.declared.Course.the-variants.{Damage, FromLineThree, Resume, Test, Permanent, Revert, Clear, Nothing}
+use Rattle.plan.specs.Lists.{placeIn}
 use Rattle.plan.specs.Asked.{askedBy}
 use Rattle.answers.specs.declared.Refusal.{Refusal}
 use Rattle.answers.specs.declared.Ending.{Ending}
@@ -22,17 +21,13 @@ use Rattle.answers.specs.Numbers.{refusalNumber}
 use Rattle.marking.specs.declared.taken.Standing.{Standing}
 use Rattle.marking.specs.Standing.{standingOf}
 
--- where an offset into the trailer sector of an area stands in the area
-abbrev pub placeIn : Build → Area → Offset → ℕ
-placeIn g a at = after (startOf (geometry g) (trailerSector g a)) at .0
-
 -- the bytes of an area with image ok 01 in its trailer, if there is to be one; and with magic
 unfoldable pub okPut : Build → Area → Bool → List ℕ → List ℕ
-okPut g a true xs = put xs (placeIn g a (okAt g)) (markBytes g 1)
+okPut g a true xs = put xs (placeIn g a (okAt g) .0) (markBytes g 1)
 okPut g a false xs = xs
 
 unfoldable pub magicPut : Build → Area → List ℕ → List ℕ
-magicPut g a xs = put xs (placeIn g a (magicAt g)) magicBytes
+magicPut g a xs = put xs (placeIn g a (magicAt g) .0) magicBytes
 
 -- a number is one of these
 unfoldable pub oneOf : List ℕ → ℕ → Bool

@@ -18,7 +18,7 @@ use Rattle.trailer.specs.Trailer.{trailer, magicAt, okAt, copyDoneAt, magicByte
 use Rattle.causes.specs.Check.{accepted}
 use Rattle.plan.specs.declared.Course.{Course}
 use Rattle.plan.specs.declared.Course.the-variants.{Damage, Resume}
-use Rattle.plan.specs.Lists.{okOps, magicOps}
+use Rattle.plan.specs.Lists.{placeIn, okOps, magicOps}
 use Rattle.plan.specs.Asked.{flashOf, askedBy}
 use Rattle.plan.specs.AskedBefore.{state-I, state-II, by-A}
 use Rattle.plan.specs.Decision.{stepA, continue, stepB, stateC, asks, judged, decide}
@@ -36,7 +36,7 @@ use Rattle.marking.specs.declared.taken.Standing.{Standing}
 use Rattle.marking.specs.Marking.{unmarked, marking}
 use Rattle.marking.specs.Standing.{standingOf}
 use Rattle.demands.specs.Promise.{Marks}
-use Rattle.demands.specs.MarkStatement.{placeIn, okPut, magicPut, Allowed, markedFor}
+use Rattle.demands.specs.MarkStatement.{okPut, magicPut, Allowed, markedFor}
 use Rattle.demands.specs.MarkLists.{run-marking}
 use Rattle.demands.specs.Marking.{whole-areas, marking-ends}
 use Rattle.demands.specs.Allowed.{marking-allowed}
@@ -118,19 +118,19 @@ marked-next p {g} {f} q w =
 length-marked : (g : Build) (p : Bool) (xs : List ℕ) → length (magicPut g slot1 (okPut g slot1 p xs)) ≡ length xs
 unfolding magicPut okPut
 length-marked g true xs =
-    length-put (put xs (placeIn g slot1 (okAt g)) (markBytes g 1)) (placeIn g slot1 (magicAt g)) magicBytes
-    ∙ length-put xs (placeIn g slot1 (okAt g)) (markBytes g 1)
-length-marked g false xs = length-put xs (placeIn g slot1 (magicAt g)) magicBytes
+    length-put (put xs (placeIn g slot1 (okAt g) .0) (markBytes g 1)) (placeIn g slot1 (magicAt g) .0) magicBytes
+    ∙ length-put xs (placeIn g slot1 (okAt g) .0) (markBytes g 1)
+length-marked g false xs = length-put xs (placeIn g slot1 (magicAt g) .0) magicBytes
 
 data-marked : (g : Geometry) (p : Bool) (xs : List ℕ) → dataOf g (magicPut (build g) slot1 (okPut (build g) slot1 p xs)) ≡ dataOf g xs
 unfolding magicPut okPut dataOf base
 data-marked g p xs =
-    take-put-before (okPut (build g) slot1 p xs) (dataBytes g .0) (placeIn (build g) slot1 (magicAt (build g))) magicBytes
+    take-put-before (okPut (build g) slot1 p xs) (dataBytes g .0) (placeIn (build g) slot1 (magicAt (build g)) .0) magicBytes
     (omega arith) ∙ before-ok p
   where
     before-ok : (p : Bool) → take (dataBytes g .0) (okPut (build g) slot1 p xs) ≡ take (dataBytes g .0) xs
     before-ok true =
-        take-put-before xs (dataBytes g .0) (placeIn (build g) slot1 (okAt (build g))) (markBytes (build g) 1) (omega arith)
+        take-put-before xs (dataBytes g .0) (placeIn (build g) slot1 (okAt (build g)) .0) (markBytes (build g) 1) (omega arith)
     before-ok false = refl
 
 -- so an exchange is due if the image is accepted, and demand 3 speaks of it

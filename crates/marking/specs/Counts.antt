@@ -1,9 +1,9 @@
 -- Document 01, "Marking and confirming": "each answers its count". What is said to be written is the whole list: no run of `wroteAll` ends
 -- Stopped, since its allowance is the length of its list.
-use mathlib.Core.Path.{_≡_, refl, _∙_}
-use mathlib.Core.List.{List, [], _∷_, _++_}
+use mathlib.Core.Path.{_≡_, refl}
+use mathlib.Core.List.{List, [], _∷_}
 use mathlib.Core.Bool.{Bool, true, false}
-use Prim.Native.Nat.{ℕ, suc, _+_, _-_, _/_}
+use Prim.Native.Nat.{ℕ, suc, _-_}
 use native.Mathlib.Omega.{arith}
 use lib.ListN.{length}
 use borrow.Author.Tests.{ne-eqb}
@@ -13,20 +13,17 @@ use Rattle.flash.specs.declared.Geometry.{Geometry}
 use Rattle.flash.specs.declared.Run.{Run}
 use Rattle.flash.specs.declared.End.the-variants.{Unerased}
 use Rattle.flash.specs.Geometry.{startOf, placeOf}
-use Rattle.flash.specs.Build.{Build, geometry, Flash, area, slot0, slot1, valid}
+use Rattle.flash.specs.Build.{Build, geometry, Flash, area, valid}
 use Rattle.flash.specs.Base.{build}
 use Rattle.flash.specs.Operations.{Op, erase, write, copy, State, local, going, unitOf, attempt, eraseIn, erased, writeIn, step, steps, start}
 use Rattle.plan.specs.declared.Course.{Course}
 use Rattle.plan.specs.declared.Course.the-variants.{Damage, FromLineThree, Resume, Test, Permanent, Revert, Clear, Nothing}
 use Rattle.plan.specs.Asked.{askedBy}
-use Rattle.plan.specs.Lists.{okOps, magicOps}
-use Rattle.plan.specs.Lengths.{one-if, length-ok}
 use Rattle.answers.specs.declared.Refusal.{Refusal}
 use Rattle.answers.specs.declared.Ending.{Ending}
 use Rattle.marking.specs.declared.taken.Standing.{Standing}
-use Rattle.marking.specs.Marking.{MarkResult, refusedMark, endingOf, wroteAll, unlessUnderWay, unlessRefused, unmarked, markUnlessMarked, marking, confirmable, confirmIfNeeded, confirming}
+use Rattle.marking.specs.Marking.{MarkResult, refusedMark, endingOf, wroteAll, unlessUnderWay, unlessRefused}
 use Rattle.marking.specs.Standing.{standingOf}
-use Rattle.marking.specs.MarkLaws.{length-marking}
 
 -- a run with an allowance of k operations for the k that are left, or one that met a unit that is not erased
 data Enough (k : ℕ) : Run → Type 0 where
@@ -85,37 +82,3 @@ by-refusals P g f otherwise one two six none = fitting (valid (build g) f) refl
     fitting : (b : Bool) → valid (build g) f ≡ b → P (pick b (unlessUnderWay (askedBy g f) f otherwise) (refusedMark Refusal.Geometry f))
     fitting true v = on-course v (askedBy g f) refl
     fitting false v = one
-
--- an answer that says Written says this count
-Counts : ℕ → MarkResult → Type 0
-Counts n r = r .answer .ending ≡ Ending.Written → r .answer .count ≡ n
-
-refused-counts : (n : ℕ) (r : Refusal) (f : Flash) → Counts n (refusedMark r f)
-unfolding Counts refusedMark
-refused-counts n r f h = absurd (let z : _≡_ {A = ℕ} 0 1 = cc in omega arith)
-
-whole-counts : (n : ℕ) (r : Refusal) (g : Geometry) (ops : List Op) (f : Flash) → length ops ≡ n
-    → (b : Bool) → Counts n (pick b (wroteAll g ops f) (refusedMark r f))
-unfolding Counts
-whole-counts n r g ops f e true = λ h. written-whole g ops f h ∙ e
-whole-counts n r g ops f e false = refused-counts n r f
-
-counts : (n : ℕ) (g : Geometry) (f : Flash) (otherwise : MarkResult) → Counts n otherwise → Counts n (unlessRefused g f otherwise)
-counts n g f otherwise h =
-    by-refusals (Counts n) g f otherwise (refused-counts n Refusal.Geometry f) (refused-counts n Refusal.Damage f)
-    (refused-counts n Refusal.UnderWay f) (λ v s. h)
-
--- sixteen bytes of magic, and one unit more for a permanent mark
-pub marking-count : (p : Bool) (g : Geometry) (f : Flash) → marking p g f .answer .ending ≡ Ending.Written
-    → marking p g f .answer .count ≡ one-if p + 16 / g .unit
-unfolding marking markUnlessMarked Counts
-marking-count p g f =
-    let n : ℕ = one-if p + 16 / g .unit in
-    counts n g f (markUnlessMarked p g f) (whole-counts n Refusal.Marks g (okOps (build g) slot1 p ++ magicOps (build g) slot1) f
-    (length-marking g p) (unmarked g f))
-
-pub confirming-count : (g : Geometry) (f : Flash) → confirming g f .answer .ending ≡ Ending.Written → confirming g f .answer .count ≡ 1
-unfolding confirming confirmIfNeeded Counts
-confirming-count g f =
-    counts 1 g f (confirmIfNeeded g f) (whole-counts 1 Refusal.Needs g (okOps (build g) slot0 true) f (length-ok (build g) slot0 true)
-    (confirmable g f))

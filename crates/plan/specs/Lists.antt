@@ -12,9 +12,12 @@ use Rattle.trailer.specs.Trailer.{magicAt, okAt, copyDoneAt, markAt, magicBytes
 
 -- ---- a trailer sector's erase, and the writes in it
 
--- the unit at an offset into the area's trailer sector
+-- where an offset into the area's trailer sector stands in the area, and the unit there
+abbrev pub placeIn : Build → Area → Offset → Offset
+placeIn g a at = after (startOf (geometry g) (trailerSector g a)) at
+
 abbrev pub trailerUnit : Build → Area → Offset → Unit
-trailerUnit g a at = unitAt (geometry g) (after (startOf (geometry g) (trailerSector g a)) at)
+trailerUnit g a at = unitAt (geometry g) (placeIn g a at)
 
 abbrev pub eraseTrailer : Build → Area → Op
 eraseTrailer g a = erase a (trailerSector g a)

@@ -116,16 +116,6 @@ module _ {g : Build} (geo : Geo g) (b : Area) (k : Sector) where
         (all-append (noted slot0 n₀ (hidden-ok geo slot0 unset)) (one (cleared slot1 n₁) none))
     course-elsewhere unset Nothing h n = none
 
--- lines 1 to 6 of the trailer exchange: the three trailer sectors
-pub trailer-exchange-only : {g : Build} → Geo g → (p : Bool) {f f' : Flash} → During g (linesOneTwo g p ++ linesThreeToSix g p) f f'
-    → Only g (trailers g) f f'
-trailer-exchange-only geo p d b k n = unchanged (all-append (begin-elsewhere geo b k p n) (settle-elsewhere geo b k p n)) d
-
--- a move with its mark: its target, and slot 0's trailer sector
-pub move-only : {g : Build} → Geo g → (c : ℕ) (m : Move) → c < 3 * g .sectors → {f f' : Flash}
-    → During g (moveOps g m ++ (progress g c ∷ [])) f f' → Only g (trailerOf g slot0 ∷ place (m .to) (m .to-sector) ∷ []) f f'
-move-only geo c m h d b k n = unchanged (move-elsewhere geo b k c m h n) d
-
 -- While the list in force is carried out, from any areas, only the sectors that document 01 names for its course change.
 pub in-force-only : (check : List ℕ → Bool) (g : Build) → Sound g → {f f' : Flash} → During g (inForce check g f) f f'
     → Only g (named g (decide check g f)) f f'

@@ -1,7 +1,7 @@
 -- What it tells that only the named sectors change, said by the sectors and bytes that are as they were; and what `During` takes in.
 use mathlib.Core.Path.{_≡_, refl, sym, ap, _∙_}
 use mathlib.Core.Logic.{_⊎_, inl, inr}
-use mathlib.Core.List.{List, [], _∷_}
+use mathlib.Core.List.{List}
 use mathlib.Core.Bool.{Bool, true, false, _&&_}
 use Prim.Native.Nat.{ℕ, zero, suc, _+_, _*_, _-_, _≤_, _<_}
 use native.Mathlib.Omega.{arith}
@@ -9,28 +9,25 @@ use lib.ListN.{length, getD, length-drop}
 use lib.Dec.{eqb}
 use lib.Seq.{getD-take, getD-drop}
 use borrow.Author.Tests.{ne-eqb}
-use Rattle.spans.specs.Table.{Row, row, Holds, no-more, and}
 use Rattle.flash.specs.declared.Sector.{Sector}
-use Rattle.flash.specs.Geometry.{sectorNo}
+use Rattle.flash.specs.declared.Offset.{Offset}
+use Rattle.flash.specs.Geometry.{byteCount, beyond}
 use Rattle.flash.specs.Build.{Area, slot0, slot1, scratch, Build, Move, Flash, sameArea, dataSectors, trailerSector, valid}
-use Rattle.flash.specs.Base.{threeMoves, allMoves, base}
-use Rattle.flash.specs.Operations.{Op, run}
+use Rattle.flash.specs.Operations.{Op}
 use Rattle.flash.specs.Harm.{Cut}
 use Rattle.flash.specs.AreaLaws.{same-area}
-use Rattle.trailer.specs.Trailer.{trailer}
+use Rattle.trailer.specs.Trailer.{trailer, okAt}
 use Rattle.plan.specs.declared.Course.{Course}
-use Rattle.plan.specs.declared.Course.the-variants.{Damage, Resume, Test, Clear, Nothing}
+use Rattle.plan.specs.declared.Course.the-variants.{Damage, Resume, Clear, Nothing}
+use Rattle.plan.specs.Lists.{placeIn}
 use Rattle.plan.specs.Decision.{decide, inForce}
 use Rattle.recovery.specs.All.{All, none, one, all-drop}
 use Rattle.recovery.specs.Statement.{Sound, Proper, sectorOf}
 use Rattle.recovery.specs.Validity.{of-valid}
-use Rattle.recovery.specs.Named.{During, after-some, failed, place, Unnamed, targets, places, named, okPlace, Cleared}
+use Rattle.recovery.specs.Named.{During, failed, Unnamed, targets, places, named, Cleared}
 use Rattle.recovery.specs.Changes.{in-force-only}
 
--- the flash after some operations, and after any failure among them
-pub some-done : (g : Build) (ops : List Op) (b : ℕ) (f : Flash) → During g ops f (run g b ops f)
-some-done g ops b f = after-some b refl
-
+-- the flash after any failure among the operations
 pub after-a-failure : {g : Build} {ops : List Op} {f f' : Flash} → Cut g ops f f' → During g ops f f'
 after-a-failure c = failed c
 
@@ -85,45 +82,27 @@ module _ (check : List ℕ → Bool) (g : Build) (sound : Sound g) {f f' : Flash
 
 -- ---- bytes that a clear-out leaves
 
--- scratch, and every byte of slot 0 but those of the unit "24 from the end"
-pub cleared-scratch : {g : Build} {f f' : Flash} → Cleared g f f' → f' .in2 ≡ f .in2
-cleared-scratch c = c .in-scratch
-
+-- every byte of slot 0 but those of the unit "24 from the end"
 pub cleared-bytes : {g : Build} {f f' : Flash} → Cleared g f f' → valid g f ≡ true → (o : ℕ)
     → (o + 24 < length (f .in0)) ⊎ (length (f .in0) + g .unit ≤ o + 24) → getD (f' .in0) o 0 ≡ getD (f .in0) o 0
 unfolding trailer
 cleared-bytes {g} {f} {f'} c v o h = go h
   where
-    ends : length (f .in0) ≡ okPlace g + 24
+    place : Offset
+    place = placeIn g slot0 (okAt g)
+
+    ends : length (f .in0) ≡ place .0 + 24
     ends =
         let z = of-valid g f v in
         omega (arith, z .geo .room, z .sized slot0, length-drop (dataSectors g slot0 * g .sector) (f .in0))
 
     go : (o + 24 < length (f .in0)) ⊎ (length (f .in0) + g .unit ≤ o + 24) → getD (f' .in0) o 0 ≡ getD (f .in0) o 0
     go (inl l) =
-        let at : ℕ = okPlace g in
+        let at : ℕ = place .0 in
         let k : o < at = omega (arith, ends) in
         sym (getD-take at (f' .in0) o 0 k) ∙ ap (λ (xs : List ℕ). getD xs o 0) (c .before-ok) ∙ getD-take at (f .in0) o 0 k
     go (inr l) =
-        let at : ℕ = okPlace g + g .unit in
+        let at : ℕ = beyond place (byteCount (g .unit)) .0 in
         let e : o ≡ at + (o - at) = omega (arith, ends) in
         rw e (sym (getD-drop at (f' .in0) (o - at) 0) ∙ ap (λ (xs : List ℕ). getD xs (o - at) 0) (c .after-ok)
         ∙ getD-drop at (f .in0) (o - at) 0)
-
--- ---- the named sectors of document 01's build with three sectors to a slot
-
-pub named-there : List Row
-named-there =
-    -- an exchange; after the moves of sector 1, and after all; a clear-out
-    row (named (base 1 512 3) Test) (place slot0 (sectorNo 2) ∷ place slot1 (sectorNo 2) ∷ place scratch (sectorNo 1)
-    ∷ place scratch (sectorNo 0) ∷ place slot1 (sectorNo 1) ∷ place slot0 (sectorNo 1)
-    ∷ place scratch (sectorNo 0) ∷ place slot1 (sectorNo 0) ∷ place slot0 (sectorNo 0) ∷ [])
-    ∷ row (named (base 1 512 3) (Resume 6)) (place slot0 (sectorNo 2)
-    ∷ place scratch (sectorNo 0) ∷ place slot1 (sectorNo 0) ∷ place slot0 (sectorNo 0) ∷ [])
-    ∷ row (named (base 1 512 3) (Resume 9)) (place slot0 (sectorNo 2) ∷ [])
-    ∷ row (named (base 1 512 3) Clear) (place slot0 (sectorNo 2) ∷ place slot1 (sectorNo 2) ∷ place slot1 (sectorNo 0)
-    ∷ place slot1 (sectorNo 1) ∷ []) ∷ []
-
-pub named-hold : Holds named-there
-unfolding named-there named targets places base threeMoves allMoves
-named-hold = and refl (and refl (and refl (and refl no-more)))

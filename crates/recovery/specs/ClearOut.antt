@@ -2,23 +2,24 @@
 use mathlib.Core.Path.{_≡_, refl, sym, ap, _∙_}
 use mathlib.Core.List.{List}
 use mathlib.Core.Bool.{Bool, true, false, false≢true}
-use Prim.Native.Nat.{ℕ, zero, suc, _+_, _*_}
+use Prim.Native.Nat.{ℕ, zero, suc, _*_}
 use native.Mathlib.Omega.{arith}
 use lib.ListN.{take, drop}
 use Rattle.spans.specs.Bytes.{blank}
 use Rattle.spans.specs.Laws.{take-put-before, drop-put-after}
 use Rattle.flash.specs.declared.Sector.{Sector}
-use Rattle.flash.specs.Geometry.{sectorNo}
+use Rattle.flash.specs.declared.Offset.{Offset}
+use Rattle.flash.specs.Geometry.{byteCount, sectorNo, beyond}
 use Rattle.flash.specs.Build.{Area, slot0, slot1, scratch, Build, Flash, area, sameArea, dataSectors, trailerSector}
 use Rattle.flash.specs.Operations.{erase, store, apply}
 use Rattle.flash.specs.Harm.{Torn, as-before, half-erased}
 use Rattle.flash.specs.AreaLaws.{unseen}
 use Rattle.trailer.specs.Trailer.{okAt, markBytes}
-use Rattle.plan.specs.Lists.{trailerUnit, mark, okOps, erases, clearOut}
+use Rattle.plan.specs.Lists.{placeIn, trailerUnit, mark, okOps, erases, clearOut}
 use Rattle.recovery.specs.All.{All, none, one, all-append}
 use Rattle.recovery.specs.Windows.{Hidden}
 use Rattle.recovery.specs.Places.{Geo, unit-back, ok-unit, length-mark, mark-whole}
-use Rattle.recovery.specs.Named.{During, okPlace, Cleared}
+use Rattle.recovery.specs.Named.{During, Cleared}
 use Rattle.recovery.specs.Changes.{unchanged}
 
 module _ {g : Build} (geo : Geo g) where
@@ -66,11 +67,12 @@ module _ {g : Build} (geo : Geo g) where
   unfolding apply
   clear-out-only p d =
       let at : ℕ = trailerUnit g slot0 (okAt g) .0 * g .unit in
-      let e : at ≡ okPlace g = unit-back geo slot0 (okAt g) (ok-unit geo) in
+      let place : Offset = placeIn g slot0 (okAt g) in
+      let e : at ≡ place .0 = unit-back geo slot0 (okAt g) (ok-unit geo) in
       record {
         in-scratch = unchanged (hidden-out (λ xs. xs) scratch p refl (λ f. refl)) d;
-        before-ok = unchanged (hidden-out (take (okPlace g)) slot0 p refl (λ f.
-            take-put-before (f .in0) (okPlace g) at (markBytes g 1) (omega arith))) d;
-        after-ok = unchanged (hidden-out (drop (okPlace g + g .unit)) slot0 p refl (λ f.
-            drop-put-after (f .in0) (okPlace g + g .unit) at (markBytes g 1) (omega (arith, length-mark geo 1)))) d;
+        before-ok = unchanged (hidden-out (take (place .0)) slot0 p refl (λ f.
+            take-put-before (f .in0) (place .0) at (markBytes g 1) (omega arith))) d;
+        after-ok = unchanged (hidden-out (drop (beyond place (byteCount (g .unit)) .0)) slot0 p refl (λ f.
+            drop-put-after (f .in0) (beyond place (byteCount (g .unit)) .0) at (markBytes g 1) (omega (arith, length-mark geo 1)))) d;
       }

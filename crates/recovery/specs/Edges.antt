@@ -7,12 +7,11 @@ use lib.ListN.{length, take}
 use Rattle.spans.specs.Bytes.{part, put, blank, same}
 use Rattle.spans.specs.Choice.{every}
 use Rattle.spans.specs.Table.{Row, row, Holds, no-more, and}
-use Rattle.flash.specs.Geometry.{sectorNo, startOf, after}
-use Rattle.flash.specs.declared.Offset.{Offset}
-use Rattle.flash.specs.Build.{slot0, Build, geometry, trailerSector, Flash, asked, fits}
+use Rattle.flash.specs.Geometry.{byteAt, sectorNo}
+use Rattle.flash.specs.Build.{slot0, Build, Flash, asked, fits}
 use Rattle.flash.specs.Base.{threeMoves, allMoves, base}
 use Rattle.trailer.specs.Trailer.{magicBytes, trailer, magicAt, okAt, copyDoneAt, markStands, magicOf, markOf, isGood, noMagic, isUnset, hasValue, written, legal}
-use Rattle.plan.specs.Lists.{writes, magicOps, okOps, linesOneTwo, linesThreeToSix, copies, moveOps, dataOps, exchange}
+use Rattle.plan.specs.Lists.{placeIn, writes, magicOps, okOps, linesOneTwo, linesThreeToSix, copies, moveOps, dataOps, exchange}
 use Rattle.plan.specs.declared.Course.{Course}
 use Rattle.plan.specs.declared.Course.the-variants.{Damage, Test, Nothing}
 use Rattle.plan.specs.Decision.{stepA, continue, stepB, stateC, asks, judged, decide}
@@ -24,10 +23,6 @@ taken w s n = fits (base w s n) (n * s) (n * s) (2 * s)
 -- "w 1, s 512, n 2"
 unfoldable pub small : Build
 small = base 1 512 2
-
--- a place in slot 0, counted from the beginning of the slot
-inSlot : Offset → ℕ
-inSlot o = after (startOf (geometry small) (trailerSector small slot0)) o .0
 
 -- a word of four bytes, little endian
 littleEndian : ℕ → List ℕ
@@ -58,9 +53,11 @@ edges =
     ∷ row (taken 1 512 2) true ∷ row (taken 1 512 128) true ∷ row (taken 1 512 1) false ∷ row (taken 1 512 129) false
     -- "w 1, s 512, n 2: marks begin at 608, mark 0 of sector 1 at 986, mark 2 of sector 0 at 991, copy done 992, image ok 1,000,
     -- magic 1,008." (the first of the progress marks are those of a sector 127)
-    ∷ row (inSlot (markStands small (sectorNo 127) 0)) 608 ∷ row (inSlot (markStands small (sectorNo 1) 0)) 986
-    ∷ row (inSlot (markStands small (sectorNo 0) 2)) 991 ∷ row (inSlot (copyDoneAt small)) 992 ∷ row (inSlot (okAt small)) 1000
-    ∷ row (inSlot (magicAt small)) 1008
+    ∷ row (placeIn small slot0 (markStands small (sectorNo 127) 0)) (byteAt 608)
+    ∷ row (placeIn small slot0 (markStands small (sectorNo 1) 0)) (byteAt 986)
+    ∷ row (placeIn small slot0 (markStands small (sectorNo 0) 2)) (byteAt 991)
+    ∷ row (placeIn small slot0 (copyDoneAt small)) (byteAt 992) ∷ row (placeIn small slot0 (okAt small)) (byteAt 1000)
+    ∷ row (placeIn small slot0 (magicAt small)) (byteAt 1008)
     -- "magic words f395c277, 7fefd260, 0f505235, 8079b62c", "The words are little endian here"
     ∷ row (littleEndian 0xf395c277 ++ littleEndian 0x7fefd260 ++ littleEndian 0x0f505235 ++ littleEndian 0x8079b62c) magicBytes
     -- "Same geometry: test exchange 1,582 operations, permanent 1,584.* w 8, s 4,096, n 3: test 3,096.*"
@@ -74,7 +71,7 @@ edges =
     ∷ row (course ran (slot [] [] magicBytes)) Test ∷ []
 
 pub edges-hold : Holds edges
-unfolding edges taken inSlot littleEndian course ran accepts flash slot small base fits asked every decide judged asks stepA stepB continue
+unfolding edges taken littleEndian course ran accepts flash slot small base fits asked every decide judged asks stepA stepB continue
     stateC written legal hasValue isUnset noMagic isGood markOf magicOf trailer markStands magicBytes writes magicOps okOps linesOneTwo
     linesThreeToSix copies moveOps dataOps exchange threeMoves allMoves put part blank same
 edges-hold =

@@ -94,7 +94,7 @@ next {g} geo sound f₀ {c} {m} {ms} {f} a =
 SameLengths : Flash → Flash → Type 0
 SameLengths f₀ f = (a : Area) → length (area a f) ≡ length (area a f₀)
 
-exchange-list : (g : Build) (unset : Bool) {course : Course} {p : Bool} → Exchange course p → listOf g unset course ≡ exchange g p
+pub exchange-list : (g : Build) (unset : Bool) {course : Course} {p : Bool} → Exchange course p → listOf g unset course ≡ exchange g p
 unfolding listOf
 exchange-list g unset by-test = refl
 exchange-list g unset by-permanent = refl

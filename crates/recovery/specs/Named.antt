@@ -2,16 +2,17 @@
 use mathlib.Core.Path.{_≡_}
 use mathlib.Core.List.{List, [], _∷_, _++_}
 use mathlib.Core.Bool.{false}
-use Prim.Native.Nat.{ℕ, zero, suc, _+_, _-_}
+use Prim.Native.Nat.{ℕ, zero, suc, _-_}
 use lib.ListN.{take, drop}
 use Rattle.flash.specs.declared.Sector.{Sector}
-use Rattle.flash.specs.Geometry.{sectorNo, startOf, after}
-use Rattle.flash.specs.Build.{Area, slot0, slot1, scratch, Build, Move, Flash, geometry, dataSectors, trailerSector}
+use Rattle.flash.specs.Geometry.{byteCount, sectorNo, beyond}
+use Rattle.flash.specs.Build.{Area, slot0, slot1, scratch, Build, Move, Flash, dataSectors, trailerSector}
 use Rattle.flash.specs.Operations.{Op, run}
 use Rattle.flash.specs.Harm.{Cut}
 use Rattle.trailer.specs.Trailer.{okAt}
 use Rattle.plan.specs.declared.Course.{Course}
 use Rattle.plan.specs.declared.Course.the-variants.{Damage, FromLineThree, Resume, Test, Permanent, Revert, Clear, Nothing}
+use Rattle.plan.specs.Lists.{placeIn}
 use Rattle.recovery.specs.All.{All}
 use Rattle.recovery.specs.Statement.{sectorOf, sameSector}
 
@@ -63,13 +64,10 @@ named g Revert = trailers g ++ targets (g .moves)
 named g Clear = trailerOf g slot0 ∷ trailerOf g slot1 ∷ places slot1 0 (dataSectors g slot1)
 named g Nothing = []
 
--- where slot 0's image ok stands
-abbrev pub okPlace : Build → ℕ
-okPlace g = after (startOf (geometry g) (trailerSector g slot0)) (okAt g) .0
-
 -- "erase slot 1's data sectors .., write slot 0 image ok 01 if it is Unset, erase slot 1's trailer sector": scratch is as it was,
 -- and slot 0 is, before the unit of its image ok and after it
 pub record Cleared (g : Build) (f f' : Flash) : Type 0 where
   pub in-scratch : f' .in2 ≡ f .in2
-  pub before-ok : take (okPlace g) (f' .in0) ≡ take (okPlace g) (f .in0)
-  pub after-ok : drop (okPlace g + g .unit) (f' .in0) ≡ drop (okPlace g + g .unit) (f .in0)
+  pub before-ok : take (placeIn g slot0 (okAt g) .0) (f' .in0) ≡ take (placeIn g slot0 (okAt g) .0) (f .in0)
+  pub after-ok : drop (beyond (placeIn g slot0 (okAt g)) (byteCount (g .unit)) .0) (f' .in0)
+      ≡ drop (beyond (placeIn g slot0 (okAt g)) (byteCount (g .unit)) .0) (f .in0)
