@@ -1,34 +1,45 @@
--- Each theorem at the top applied, with the image check itself: its hypotheses can be met, and what it says then is document 01's.
+-- The theorems about a power-up applied, with the image check itself: their hypotheses can be met, and what they say then is document 01's.
 use mathlib.Core.Path.{_≡_, refl, ap, _∙_}
 use mathlib.Core.List.{List, [], _∷_, _++_}
-use mathlib.Core.Bool.{true}
+use mathlib.Core.Bool.{true, false}
 use Prim.Native.Nat.{ℕ}
 use native.Mathlib.Omega.{arith}
+use lib.ListN.{length}
 use lib.Seq.{take-at}
 use Rattle.spans.specs.Bytes.{part, put, blank, same}
 use Rattle.spans.specs.Choice.{every}
 use Rattle.fields.specs.Fields.{little, field}
 use Rattle.flash.specs.declared.Geometry.{Geometry}
-use Rattle.flash.specs.Build.{Flash, asked, fits, valid}
+use Rattle.flash.specs.Geometry.{sectorNo}
+use Rattle.flash.specs.Build.{Area, slot0, Flash, area, asked, fits, valid}
 use Rattle.flash.specs.Base.{base, build}
 use Rattle.trailer.specs.Trailer.{magicBytes, trailer, magicOf, markOf, isGood, noMagic, isUnset, hasValue, written, legal}
 use Rattle.causes.specs.Header.{headerMagic, headerSize}
 use Rattle.causes.specs.Check.{sizes, head, withSizes, structure, digestAt, check, isAccepted, accepted}
 use Rattle.causes.specs.Image.{Image}
 use Rattle.causes.specs.Written as writer
-use Rattle.plan.specs.declared.Course.the-variants.{Damage, Clear}
-use Rattle.plan.specs.Decision.{stepA, continue, stepB, stateC, asks, judged, decide}
-use Rattle.recovery.specs.Statement.{Swapped, never}
+use Rattle.plan.specs.declared.Course.the-variants.{Damage, Test, Clear}
+use Rattle.plan.specs.declared.Done.{Done}
+use Rattle.plan.specs.Lists.{exchange}
+use Rattle.plan.specs.Decision.{stepA, continue, stepB, stateC, asks, judged, decide, inForce, doneOf}
+use Rattle.recovery.specs.All.{none, one}
+use Rattle.recovery.specs.Statement.{Failures, never, Swapped, sectorOf}
+use Rattle.recovery.specs.Validity.{of-valid}
+use Rattle.recovery.specs.BaseMoves.{length-base}
+use Rattle.recovery.specs.Named.{places, named, Cleared}
 use Rattle.answers.specs.declared.Refusal.{Refusal}
 use Rattle.answers.specs.declared.Outcome.{Outcome}
-use Rattle.loader.specs.PowerUp.{dataOf, refused, fullStart}
+use Rattle.loader.specs.PowerUp.{Result, dataOf, refused, isDamage, fullStart}
 use Rattle.demands.specs.Promise.{met}
-use Rattle.demands.specs.Statement.{Ends}
+use Rattle.demands.specs.Statement.{Ends, asListed}
+use Rattle.demands.specs.AsListed.{as-listed}
 use Rattle.demands.specs.Demand1.{demand-1, damage-untouched, misfit-untouched}
 use Rattle.demands.specs.Demand2.{exchange-of-image, clear-out-of-none}
 use Rattle.demands.specs.Demand3.{demand-3}
 use Rattle.demands.specs.Boots.{boots-what-was-checked}
-use Rattle.demands.specs.Instances.{small, image, image-whole, ending, flash, for-test, for-good, on-trial, test-due, permanent-due, revert-due, harmed, harm-comes}
+use Rattle.demands.specs.Touched.{start-lengths, start-only, answered-cleared}
+use Rattle.demands.specs.Stopped.{stopped}
+use Rattle.demands.specs.Instances.{small, image, image-whole, ending, flash, for-test, for-good, on-trial, test-due, permanent-due, revert-due, in-force, harmed, harm-comes}
 
 -- ---- demand 3: the image that was destroyed in slot 1 stands in slot 0, and is booted
 
@@ -102,3 +113,44 @@ pub misfit-left : (fullStart true (record { unit = 1; sector = 512; sectors = 1 
     × (fullStart true (record { unit = 1; sector = 512; sectors = 1 }) 4000 damaged .flash ≡ damaged)
 unfolding damaged base valid fits asked every blank
 misfit-left = misfit-untouched (met true (record { unit = 1; sector = 512; sectors = 1 }) 4000 damaged) refl
+
+-- ---- what a start leaves alone: in a clear-out scratch, and slot 0 but its image ok; the lengths
+
+no-image-fits : valid (build small) no-image ≡ true
+unfolding no-image small ending base valid fits asked every magicBytes put blank
+no-image-fits = refl
+
+answers-cleared : fullStart true small 4000 no-image .answer .done ≡ Done.Cleared
+unfolding asListed doneOf isDamage
+answers-cleared = ap (λ (r : Result). r .answer .done) (as-listed true small 4000 no-image Clear no-image-fits cleared refl)
+
+pub clear-out-left : Cleared (build small) no-image (fullStart true small 4000 no-image .flash)
+clear-out-left = answered-cleared (met true small 4000 no-image) answers-cleared
+
+-- with any allowance
+pub slot-0-data-left : (b : ℕ) → sectorOf (build small) (fullStart true small b no-image .flash) slot0 (sectorNo 0)
+    ≡ sectorOf (build small) no-image slot0 (sectorNo 0)
+unfolding named places small base
+slot-0-data-left b = start-only (met true small b no-image) slot0 (sectorNo 0) (rw cleared (one refl (one refl (one refl none))))
+
+pub as-long-after-harm : (b : ℕ) (x : Area) → length (area x (fullStart true small b harmed .flash)) ≡ length (area x harmed)
+as-long-after-harm b = start-lengths (met true small b harmed)
+
+-- ---- a start that its allowance stops is a failure like others, and demand 3 holds from where it led
+
+stops-at-700 : fullStart true small 700 for-test .answer .outcome ≡ Outcome.Stopped
+unfolding asListed isDamage small
+stops-at-700 =
+    let n : length (exchange (build small) false) ≡ 1582 = length-base 1 512 2 false (of-valid (build small) for-test (test-due .fits) .geo) in
+    ap (λ (r : Result). r .answer .outcome) (as-listed true small 700 for-test Test (test-due .fits) (test-due .decided) refl)
+    ∙ rw (in-force test-due, n)
+
+pub stop-among-failures : Failures (build small) (inForce accepted (build small)) for-test (fullStart true small 700 for-test .flash)
+stop-among-failures = stopped never (met true small 700 for-test) stops-at-700
+
+pub exchanged-after-stop : (fullStart true small 1582 (fullStart true small 700 for-test .flash) .flash ≡ fullStart true small 1582 for-test .flash)
+    × Swapped (build small) for-test (fullStart true small 1582 (fullStart true small 700 for-test .flash) .flash)
+unfolding small
+exchanged-after-stop =
+    demand-3 test-due stop-among-failures (omega arith) (met true small 1582 for-test)
+    (met true small 1582 (fullStart true small 700 for-test .flash))

@@ -1,18 +1,18 @@
 -- Flash for which the hypotheses of the demands hold, with the image check itself: an image in slot 1 (w 1, s 512, n 2), an exchange of each
 -- kind due, and power that fails while slot 1's sector, the image in it, is erased.
-use mathlib.Core.Path.{_≡_, refl, ap, _∙_}
+use mathlib.Core.Path.{_≡_, refl, ap, ap₂, _∙_}
 use mathlib.Core.List.{List, [], _∷_, _++_}
 use mathlib.Core.Bool.{Bool, true, false}
 use Prim.Native.Nat.{ℕ}
 use native.Mathlib.Omega.{arith}
-use lib.ListN.{length, take, drop, replicate, length-append}
+use lib.ListN.{length, drop, replicate, length-append}
 use lib.Seq.{take-at, drop-at}
 use Rattle.spans.specs.Bytes.{part, put, blank, same}
 use Rattle.spans.specs.Choice.{every}
 use Rattle.spans.specs.Laws.{length-blank}
 use Rattle.flash.specs.declared.Geometry.{Geometry}
 use Rattle.flash.specs.Geometry.{sectorNo}
-use Rattle.flash.specs.Build.{slot1, Build, Flash, asked, fits, valid}
+use Rattle.flash.specs.Build.{slot0, slot1, Build, Flash, asked, fits, valid}
 use Rattle.flash.specs.Base.{threeMoves, allMoves, base, build}
 use Rattle.flash.specs.Operations.{erase, store, run}
 use Rattle.flash.specs.Harm.{half-erased}
@@ -23,9 +23,13 @@ use Rattle.causes.specs.Written as writer
 use Rattle.plan.specs.declared.Course.{Course}
 use Rattle.plan.specs.declared.Course.the-variants.{Test, Permanent, Revert}
 use Rattle.plan.specs.Lists.{writes, magicOps, okOps, linesOneTwo, linesThreeToSix, copies, moveOps, dataOps, exchange}
-use Rattle.plan.specs.Decision.{stepA, continue, stepB, stateC, asks, judged, decide, listOf, okUnset, inForce}
+use Rattle.plan.specs.Decision.{stepA, continue, stepB, stateC, asks, judged, okUnset, inForce}
+use Rattle.plan.specs.DecisionLaws.{decide-checked}
+use Rattle.plan.specs.Asked.{askedBy}
 use Rattle.recovery.specs.Cuts.{at-cut}
+use Rattle.recovery.specs.Follows.{exchange-list}
 use Rattle.recovery.specs.Statement.{Due, Exchange, by-test, by-permanent, by-revert, Failures, never, again}
+use Rattle.loader.specs.PowerUp.{dataOf}
 use Rattle.demands.specs.Demand2.{image-accepted}
 
 -- "w 1, s 512, n 2"
@@ -64,22 +68,40 @@ exchanged by-permanent = refl
 exchanged by-revert = refl
 
 module _ (t0 t1 : List ℕ) where
-  due : {course : Course} {p : Bool} → length t0 ≡ 512 → length t1 ≡ 512 → Exchange course p
-      → asks (build small) t0 t1 (drop 512 (blank 1024)) ≡ course → Due accepted (build small) (flash t0 t1) course p
-  unfolding flash small base valid fits asked every decide trailer
-  due l0 l1 which e =
-      let b0 : length (blank 512) ≡ 512 = length-blank 512 in
-      let b2 : length (blank 1024) ≡ 1024 = length-blank 1024 in
-      let n0 : length (blank 512 ++ t0) ≡ 1024 = length-append (blank 512) t0 ∙ omega arith in
-      let n1 : length (image ++ t1) ≡ 1024 = length-append image t1 ∙ omega (arith, image-whole) in
-      let x0 : drop 512 (blank 512 ++ t0) ≡ t0 = drop-at (blank 512) t0 512 b0 in
-      let x1 : drop 512 (image ++ t1) ≡ t1 = drop-at image t1 512 image-whole in
-      let lent : accepted (take 512 (image ++ t1)) ≡ true = ap accepted (take-at image t1 512 image-whole) ∙ image-accepted image an-image in
-      record {
-        fits = rw (n0, n1, b2);
-        which = which;
-        decided = rw (lent, x0, x1) (ap (judged true) e ∙ exchanged which);
-      }
+  -- what the trailers and the data bytes of these areas are
+  pub ends-0 : trailer (build small) slot0 (flash t0 t1) ≡ t0
+  unfolding flash small base trailer
+  ends-0 = drop-at (blank 512) t0 512 (length-blank 512)
+
+  pub ends-1 : trailer (build small) slot1 (flash t0 t1) ≡ t1
+  unfolding flash small base trailer
+  ends-1 = drop-at image t1 512 image-whole
+
+  pub lent-image : accepted (dataOf small (flash t0 t1 .in1)) ≡ true
+  unfolding flash small dataOf
+  lent-image = ap accepted (take-at image t1 512 image-whole) ∙ image-accepted image an-image
+
+  pub asked-so : {course : Course} → asks (build small) t0 t1 (drop 512 (blank 1024)) ≡ course → askedBy small (flash t0 t1) ≡ course
+  unfolding flash small base trailer
+  asked-so e = rw (ends-0, ends-1) e
+
+  module _ (l0 : length t0 ≡ 512) (l1 : length t1 ≡ 512) where
+    pub fits-so : valid (build small) (flash t0 t1) ≡ true
+    unfolding flash small base valid fits asked every
+    fits-so =
+        let b2 : length (blank 1024) ≡ 1024 = length-blank 1024 in
+        let n0 : length (blank 512 ++ t0) ≡ 1024 = length-append (blank 512) t0 ∙ omega (arith, length-blank 512) in
+        let n1 : length (image ++ t1) ≡ 1024 = length-append image t1 ∙ omega (arith, image-whole) in
+        rw (n0, n1, b2)
+
+    due : {course : Course} {p : Bool} → Exchange course p → asks (build small) t0 t1 (drop 512 (blank 1024)) ≡ course
+        → Due accepted (build small) (flash t0 t1) course p
+    unfolding dataOf
+    due which e = record {
+      fits = fits-so;
+      which = which;
+      decided = decide-checked accepted small (flash t0 t1) ∙ ap₂ judged lent-image (asked-so e) ∙ exchanged which;
+    }
 
 -- slot 1 marked for test, and slot 0 ready for III besides; marked for good; slot 0 on trial, and slot 1 with no magic
 unfoldable pub for-test : Flash
@@ -109,13 +131,8 @@ revert-due = due (ending (1 ∷ []) [] magicBytes) (blank 512) refl refl by-reve
 -- ---- power fails
 
 pub in-force : {g : Build} {f : Flash} {course : Course} {p : Bool} → Due accepted g f course p → inForce accepted g f ≡ exchange g p
-unfolding inForce listOf
-in-force {g} {f} d = rw (d .fits, d .decided) (listed (d .which))
-  where
-    listed : {course : Course} {p : Bool} → Exchange course p → listOf g (okUnset g f) course ≡ exchange g p
-    listed by-test = refl
-    listed by-permanent = refl
-    listed by-revert = refl
+unfolding inForce
+in-force {g} {f} d = rw (d .fits, d .decided) (exchange-list g (okUnset g f) (d .which))
 
 -- the second move's erase: the image has gone to scratch, and slot 1's sector is left with sevens
 unfoldable pub harmed : Flash

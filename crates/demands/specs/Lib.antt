@@ -19,3 +19,4 @@ pub mod MarkedNext
 pub mod ConfirmedNext
 pub mod Touched
 pub mod Stopped
+pub mod AppliedMarks

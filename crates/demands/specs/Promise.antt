@@ -30,6 +30,9 @@ one-answer p q = (
 pub record Marks (what : Geometry → Flash → MarkResult) (g : Geometry) (f : Flash) (a : Marked) (f' : Flash) : Type 0 where
   pub promised : markResult a f' ≡ what g f
 
+pub met-mark : (what : Geometry → Flash → MarkResult) (g : Geometry) (f : Flash) → Marks what g f (what g f .answer) (what g f .flash)
+met-mark what g f = record { promised = refl }
+
 pub one-mark : {what : Geometry → Flash → MarkResult} {g : Geometry} {f f₁ f₂ : Flash} {a₁ a₂ : Marked}
     → Marks what g f a₁ f₁ → Marks what g f a₂ f₂ → (a₁ ≡ a₂) × (f₁ ≡ f₂)
 one-mark p q = (
