@@ -2,9 +2,9 @@
 use mathlib.Core.Path.{_≡_, refl, ap, _∙_}
 use mathlib.Core.List.{List, [], _∷_, _++_}
 use mathlib.Core.Bool.{true, false}
-use Prim.Native.Nat.{ℕ}
+use Prim.Native.Nat.{ℕ, zero, suc, _<_}
 use native.Mathlib.Omega.{arith}
-use lib.ListN.{length}
+use lib.ListN.{length, replicate}
 use lib.Seq.{take-at}
 use Rattle.spans.specs.Bytes.{part, put, blank, same}
 use Rattle.spans.specs.Choice.{every}
@@ -13,6 +13,7 @@ use Rattle.flash.specs.declared.Geometry.{Geometry}
 use Rattle.flash.specs.Geometry.{sectorNo}
 use Rattle.flash.specs.Build.{Area, slot0, Flash, area, asked, fits, valid}
 use Rattle.flash.specs.Base.{base, build}
+use Rattle.flash.specs.Operations.{runAll}
 use Rattle.trailer.specs.Trailer.{magicBytes, trailer, magicOf, markOf, isGood, noMagic, isUnset, hasValue, written, legal}
 use Rattle.causes.specs.Header.{headerMagic, headerSize}
 use Rattle.causes.specs.Check.{sizes, head, withSizes, structure, digestAt, check, isAccepted, accepted}
@@ -22,7 +23,7 @@ use Rattle.plan.specs.declared.Course.the-variants.{Damage, Test, Clear}
 use Rattle.plan.specs.declared.Done.{Done}
 use Rattle.plan.specs.Lists.{exchange}
 use Rattle.plan.specs.Decision.{stepA, continue, stepB, stateC, asks, judged, decide, inForce, doneOf}
-use Rattle.recovery.specs.All.{none, one}
+use Rattle.recovery.specs.All.{All, none, one}
 use Rattle.recovery.specs.Statement.{Failures, never, Swapped, sectorOf}
 use Rattle.recovery.specs.Validity.{of-valid}
 use Rattle.recovery.specs.BaseMoves.{length-base}
@@ -31,7 +32,7 @@ use Rattle.answers.specs.declared.Refusal.{Refusal}
 use Rattle.answers.specs.declared.Outcome.{Outcome}
 use Rattle.loader.specs.PowerUp.{Result, dataOf, refused, isDamage, fullStart}
 use Rattle.demands.specs.Promise.{met}
-use Rattle.demands.specs.Statement.{Ends, asListed}
+use Rattle.demands.specs.Statement.{Ends, asListed, Starts, AllStop}
 use Rattle.demands.specs.AsListed.{as-listed}
 use Rattle.demands.specs.Demand1.{demand-1, damage-untouched, misfit-untouched}
 use Rattle.demands.specs.Demand2.{exchange-of-image, clear-out-of-none}
@@ -39,6 +40,7 @@ use Rattle.demands.specs.Demand3.{demand-3}
 use Rattle.demands.specs.Boots.{boots-what-was-checked}
 use Rattle.demands.specs.Touched.{start-lengths, start-only, answered-cleared}
 use Rattle.demands.specs.Stopped.{stopped}
+use Rattle.demands.specs.LeastAllowance.{least-allowance, fewer-never-end}
 use Rattle.demands.specs.Instances.{small, image, image-whole, ending, flash, for-test, for-good, on-trial, test-due, permanent-due, revert-due, in-force, harmed, harm-comes}
 
 -- ---- demand 3: the image that was destroyed in slot 1 stands in slot 0, and is booted
@@ -154,3 +156,28 @@ unfolding small
 exchanged-after-stop =
     demand-3 test-due stop-among-failures (omega arith) (met true small 1582 for-test)
     (met true small 1582 (fullStart true small 700 for-test .flash))
+
+-- ---- the least allowance: s/w + 2 is 514, and 3m + 2 is 5
+
+pub five-starts : Starts true small (Outcome.Boot 32) (runAll (build small) (exchange (build small) false) for-test)
+    (514 ∷ 514 ∷ 514 ∷ 514 ∷ 514 ∷ []) harmed
+unfolding small for-test flash
+five-starts =
+    rw (← boots-32) (least-allowance true small test-due harm-comes (514 ∷ 514 ∷ 514 ∷ 514 ∷ 514 ∷ [])
+    (one (omega arith) (one (omega arith) (one (omega arith) (one (omega arith) (one (omega arith) none))))) (omega arith))
+  where
+    boots-32 : Outcome.Boot (headerSize (dataOf small (for-test .in1))) ≡ Outcome.Boot 32
+    boots-32 = ap Outcome.Boot (says-32 (ending (1 ∷ []) [] magicBytes) (ending [] [] magicBytes))
+
+-- one operation fewer a start, and the exchange never ends: as many starts as one likes
+pub ever-stopped : (n : ℕ) → AllStop true small (replicate n 513) for-test
+unfolding small
+ever-stopped n =
+    fewer-never-end true small test-due never (rw (in-force test-due, length-test) (omega arith)) (replicate n 513) (all-513 n)
+  where
+    length-test : length (exchange (build small) false) ≡ 1582
+    length-test = length-base 1 512 2 false (of-valid (build small) for-test (test-due .fits) .geo)
+
+    all-513 : (n : ℕ) → All (λ (b : ℕ). b < 514) (replicate n 513)
+    all-513 zero = none
+    all-513 (suc n) = one {x = 513} (omega arith) (all-513 n)
