@@ -28,7 +28,7 @@ use Rattle.answers.specs.Numbers.{refusalNumber, refusalCause, doneNumber, endN
 use Rattle.loader.specs.PowerUp.{Result, judgedStart, started, dataOf, bootOf, ended, carried, answered, refused, isDamage, onCourse, fullStart}
 use Rattle.demands.specs.Statement.{asListed}
 use Rattle.demands.specs.AsListed.{as-listed}
-use Rattle.demands.specs.Instances.{small, for-test, for-good, on-trial, test-due, permanent-due, revert-due, in-force}
+use Rattle.demands.specs.Instances.{small, for-test, for-good, on-trial, test-due, permanent-due, revert-due, in-force, booted}
 use Rattle.demands.specs.Applied.{boots-test, boots-permanent, boots-reverted}
 
 -- what the full start answers, slot 0 checked or not
@@ -63,10 +63,6 @@ module _ (b : ℕ) {f : Flash} {course : Course} {p : Bool} (due : Due accepted 
       ∙ rw (in-force due)
 
 -- ---- refusal 4
-
--- an image in slot 0, and nothing due
-booted : List ℕ → Flash
-booted image = record { in0 = put (blank 1024) 0 image; in1 = blank 1024; in2 = blank 1024 }
 
 -- what it says: what was done, the count, the end, the offset, the refusal and the cause, with no marks found
 says : ℕ → ℕ → ℕ → ℕ → ℕ → ℕ → Numbers

@@ -128,6 +128,10 @@ unfolding on-trial small ending base asks stepA stepB continue stateC written le
     part blank same
 revert-due = due (ending (1 ∷ []) [] magicBytes) (blank 512) refl refl by-revert refl
 
+-- bytes in slot 0, and nothing due
+unfoldable pub booted : List ℕ → Flash
+booted bytes = record { in0 = put (blank 1024) 0 bytes; in1 = blank 1024; in2 = blank 1024 }
+
 -- ---- power fails
 
 pub in-force : {g : Build} {f : Flash} {course : Course} {p : Bool} → Due accepted g f course p → inForce accepted g f ≡ exchange g p

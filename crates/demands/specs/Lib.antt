@@ -19,4 +19,5 @@ pub mod MarkedNext
 pub mod ConfirmedNext
 pub mod Touched
 pub mod Stopped
+pub mod AppliedCauses
 pub mod AppliedMarks
