@@ -1,6 +1,6 @@
 /*
  * The numbers in README and header, on exchanges of each kind and width, as the archive carries them out: the places in a trailer and in an
- * image, erases for each sector, the length of an exchange, and the least allowance.
+ * image, erases for each sector with and without a cut, the length of an exchange, and the least allowance.
  */
 #include "flash.h"
 
@@ -75,53 +75,126 @@ static void image_magic(void)
     HOLDS(start(&f, UINT64_MAX).refusal == 3);
 }
 
-/* Erases are seen by a byte that becomes 0xff: every sector that is erased held another one. */
+typedef unsigned counts[AREAS][MOST_SECTORS];
+
+/* The erases of the operation that leads from one flash to the other, seen by a byte that becomes 0xff, added to their counts. */
+static void add_erases(counts erases, const flash *from, const flash *to)
+{
+    for (unsigned area = 0; area < AREAS; area++)
+        for (size_t k = 0; k < sectors_of(area); k++) {
+            const uint8_t *old = from->area[area] + k * s, *now = to->area[area] + k * s;
+            bool seen = false;
+            if (memcmp(old, now, s) != 0)
+                for (size_t i = 0; i < s && !seen; i++)
+                    seen = now[i] == 0xff && old[i] != 0xff;
+            erases[area][k] += seen;
+        }
+}
+
+/* A sector that is blank gets a byte that is not, where the loader does not read: its next erase can be seen then. */
+static void make_erases_seen(flash *f)
+{
+    for (unsigned area = 0; area < AREAS; area++)
+        for (size_t k = 0; k < sectors_of(area); k++) {
+            bool blank = true;
+            for (size_t i = k * s; i < (k + 1) * s && blank; i++)
+                blank = f->area[area][i] == 0xff;
+            if (blank)
+                f->area[area][k * s] = 0;
+        }
+}
+
+/* All that a start carries out. Two flashes in turn, and no byte beyond their areas: one exchange is stepped through a thousand times below. */
+static void count_erases(counts erases, const flash *from)
+{
+    static flash after[2];
+    after[0] = after[1] = *from;
+    size_t operations = start(&after[1], UINT64_MAX).count;
+    for (size_t b = 0; b < operations; b++) {
+        flash *next = &after[(b + 1) % 2];
+        for (unsigned area = 0; area < AREAS; area++)
+            memcpy(next->area[area], from->area[area], length(area));
+        start(next, b + 1);
+        add_erases(erases, &after[b % 2], next);
+    }
+}
+
 static void wear(unsigned kind)
 {
-    static unsigned erases[AREAS][MOST_SECTORS];
-    flash before, f, after;
-    memset(erases, 0, sizeof erases);
+    flash before;
+    counts erases = {{0}};
     due(&before, kind);
-    after = before;
-    for (size_t b = 0; b < whole(kind); b++) {
-        bool seen[AREAS][MOST_SECTORS] = {{false}};
-        f = after, after = before;
-        start(&after, b + 1);
-        for (unsigned area = 0; area < AREAS; area++)
-            for (size_t i = 0; i < length(area); i++)
-                if (after.area[area][i] == 0xff && f.area[area][i] != 0xff)
-                    seen[area][i / s] = true;
-        for (unsigned area = 0; area < AREAS; area++)
-            for (size_t k = 0; k < sectors_of(area); k++)
-                erases[area][k] += seen[area][k];
-    }
+    count_erases(erases, &before);
     for (size_t k = 0; k < n; k++)
         HOLDS(erases[SLOT0][k] == 1 && erases[SLOT1][k] == 1);
     HOLDS(erases[SCRATCH][0] == m && erases[SCRATCH][1] == 2);
 }
 
+static unsigned cuts;
+
+/* Every cut and every stop, and then a start that goes to the end. The operation that was cut counts, whether it happened or not. */
+static void wear_of_cuts(unsigned kind)
+{
+    flash before, cut, after;
+    counts uncut = {{0}}, so_far = {{0}};
+    due(&before, kind);
+    count_erases(uncut, &before);
+    for (size_t b = 0; b < whole(kind); b++) {
+        counts erases;
+        cut = before, after = before;
+        start(&cut, b);
+        start(&after, b + 1);
+        add_erases(so_far, &cut, &after);
+        memcpy(erases, so_far, sizeof erases);
+        make_erases_seen(&cut);
+        count_erases(erases, &cut);
+        unsigned more_data = 0, more_trailers = 0;
+        for (unsigned area = 0; area < AREAS; area++)
+            for (size_t k = 0; k < sectors_of(area); k++) {
+                HOLDS(erases[area][k] >= uncut[area][k] && erases[area][k] <= uncut[area][k] + 1);
+                *(k + 1 == sectors_of(area) ? &more_trailers : &more_data) += erases[area][k] - uncut[area][k];
+            }
+        HOLDS(more_data <= 1 && (more_data == 0 || more_trailers == 0));
+        cuts++;
+    }
+}
+
 static size_t most_starts;
 
-/* With s/w + 2 operations a start it ends in 3m + 3 starts; with one fewer the same move is begun for ever. */
+/* Starts until one is not stopped. */
+static size_t starts_with(flash f, const flash *before, uint64_t allowance)
+{
+    size_t starts = 1;
+    for (; start(&f, allowance).end == SCALE_END_STOPPED; starts++)
+        HOLDS(starts < 3 * m + 2);
+    HOLDS(same_data(&f, SLOT0, before, SLOT1) && same_data(&f, SLOT1, before, SLOT0));
+    return starts;
+}
+
+/*
+ * With s/w + 2 operations a start or more it ends in 3m + 2 starts, from wherever it stands, and with exactly s/w + 2 it takes them all. With
+ * fewer, all starts are stopped while more than copy done is left, and no mark comes beside those that stood.
+ */
 static void least_allowance(unsigned kind)
 {
-    flash before, f, last;
-    size_t starts = 1;
+    flash before, f;
     due(&before, kind);
-    f = before;
-    for (; start(&f, s / w + 2).end == SCALE_END_STOPPED; starts++)
-        HOLDS(starts < 3 * m + 3);
-    HOLDS(same_data(&f, SLOT0, &before, SLOT1) && same_data(&f, SLOT1, &before, SLOT0));
-    most_starts = starts > most_starts ? starts : most_starts;
-
-    f = before;
-    start(&f, s / w + 1);
-    start(&f, s / w + 1);
-    for (unsigned again = 0; again < 20; again++) {
-        last = f;
-        scale_answer a = start(&f, s / w + 1);
-        HOLDS(a.done == SCALE_DONE_RESUMED && a.found == 3 && a.end == SCALE_END_STOPPED && same(&f, &last));
+    most_starts = starts_with(before, &before, s / w + 2);
+    HOLDS(most_starts == 3 * m + 2);
+    HOLDS(starts_with(before, &before, s / w + 3) < 3 * m + 2 && starts_with(before, &before, whole(kind)) == 1);
+    for (size_t cut = 0; cut + 1 < whole(kind); cut += cut < trailers(kind) ? 1 : 61) {
+        f = before;
+        start(&f, cut);
+        starts_with(f, &before, s / w + 2);
+        size_t moved = cut < trailers(kind) ? 0 : (cut - trailers(kind)) / (s / w + 2);
+        for (unsigned again = 0; again < 20; again++) {
+            scale_answer a = start(&f, again % 4 ? s / w + 1 : again);
+            HOLDS(a.end == SCALE_END_STOPPED && a.found <= 3 + moved);
+        }
     }
+    f = before;
+    start(&f, whole(kind) - 1);
+    HOLDS(boots(start(&f, 1), SCALE_DONE_RESUMED));
 }
 
 int main(void)
@@ -141,7 +214,9 @@ int main(void)
             }
         }
     }
-    printf("numbers of README and header: %llu facts hold; at most %zu starts of s/w + 2 operations at n = %d\n", tried, most_starts,
-           MOST_SECTORS);
+    smallest(1, 2);
+    wear_of_cuts(PERMANENT);
+    printf("numbers of README and header: %llu facts hold; %zu starts of s/w + 2 operations at n = %d; erases after %u cuts\n", tried,
+           most_starts, MOST_SECTORS, cuts);
     return 0;
 }

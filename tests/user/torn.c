@@ -1,12 +1,12 @@
 /*
- * A board that does not finish its trailer operation when power fails, as the README tells of it: random bytes in the unit or the sector of
- * each trailer operation of exchanges of each kind and width, and then a start.
+ * torn [SEED]: a board that does not finish its trailer operation when power fails, as the README tells of it: random bytes in the unit or the
+ * sector of each trailer operation of exchanges of each kind and width, and then a start.
  */
 #include "flash.h"
 
-enum { TIMES = 40 };
+enum { TIMES = 40, UNSET = 0xff, SPOILT = 0x55 };
 
-static uint64_t state = 2026;
+static uint64_t state;
 
 static uint8_t random_byte(void)
 {
@@ -38,7 +38,7 @@ static bool tear(flash *f, const flash *after)
     return bytes == w && (memcmp(from, blank, w) == 0 || memcmp(from, after->area[area] + at / w * w, w) == 0);
 }
 
-static unsigned torn_marks, torn_done, torn_trailers;
+static unsigned torn_marks, torn_done, torn_trailers, other_kinds;
 
 static void ends_exchanged(flash *f, const flash *before)
 {
@@ -54,12 +54,24 @@ static void torn_trailer(flash *f, const flash *before)
     torn_trailers++;
 }
 
-/* The erase of line 6, torn so that scratch's magic still stands and its image ok does not. */
-static void torn_but_for_magic(const flash *last)
+/*
+ * The erase of line 6, torn so that scratch's magic still stands: the exchange goes on as scratch's image ok then reads, and slot 0's is written by
+ * that. Unset, as a test: the next start takes it back, which after a revert is the failed firmware again. 01, as one for good.
+ */
+static void torn_but_for_magic(const flash *last, const flash *before, unsigned kind, uint8_t ok)
 {
     flash f = *last;
-    memset(f.area[SCRATCH] + ok_place(SCRATCH), 0x55, 8);
-    HOLDS(refused_2(start(&f, UINT64_MAX)));
+    memset(f.area[SCRATCH] + ok_place(SCRATCH), 0xff, w);
+    f.area[SCRATCH][ok_place(SCRATCH)] = ok;
+    if (ok == SPOILT) {
+        HOLDS(refused_2(start(&f, UINT64_MAX)));
+        return;
+    }
+    HOLDS(boots(start(&f, UINT64_MAX), SCALE_DONE_RESUMED));
+    HOLDS(same_data(&f, SLOT0, before, SLOT1) && same_data(&f, SLOT1, before, SLOT0));
+    HOLDS(boots(start(&f, UINT64_MAX), ok == UNSET ? SCALE_DONE_REVERT : SCALE_DONE_NONE));
+    HOLDS(same_data(&f, SLOT0, before, ok == UNSET ? SLOT0 : SLOT1));
+    other_kinds += (kind == TEST) != (ok == UNSET);
 }
 
 static void torn_mark(flash *f)
@@ -91,8 +103,11 @@ static void exchange(unsigned kind)
         f = before, after = before;
         start(&f, cut);
         start(&after, cut + 1);
-        if (cut + 1 == trailers(kind))
-            torn_but_for_magic(&f);
+        if (cut + 1 == trailers(kind)) {
+            torn_but_for_magic(&f, &before, kind, SPOILT);
+            torn_but_for_magic(&f, &before, kind, UNSET);
+            torn_but_for_magic(&f, &before, kind, 1);
+        }
         for (unsigned time = 0; time < TIMES; time++) {
             flash torn = f;
             if (tear(&torn, &after))
@@ -107,14 +122,21 @@ static void exchange(unsigned kind)
     }
 }
 
-int main(void)
+int main(int words, char **word)
 {
+    state = words > 1 ? strtoull(word[1], NULL, 10) : 2026;
+    if (state == 0) {
+        fprintf(stderr, "torn: a seed is a number above 0\n");
+        return 1;
+    }
+    printf("torn trailer operations: seed %llu (again: tests/user/run %llu)\n", (unsigned long long)state, (unsigned long long)state);
+    fflush(stdout);
     for (size_t width = 1; width <= 8; width *= 2) {
         smallest(width, 3);
         for (unsigned kind = 0; kind < KINDS; kind++)
             exchange(kind);
     }
     printf("torn trailer operations: %u progress marks all refused 2, %u copy done all left a firmware not on trial, %u of the six lines all "
-           "taken up again\n", torn_marks, torn_done, torn_trailers);
+           "taken up again; %u exchanges went on as another kind, by scratch's image ok\n", torn_marks, torn_done, torn_trailers, other_kinds);
     return 0;
 }
