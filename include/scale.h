@@ -14,8 +14,10 @@
  *
  * Without that, random bytes where a trailer operation was cut do this. In a progress mark (how far the exchange has come): refusal 2, and the
  * firmware is in parts. In copy done (the exchange is over): the new firmware runs and is not on trial, that is, nothing takes it back if it is
- * not confirmed. The other trailer operations are taken up again, unless the erase of scratch's trailer left its magic (a trailer is in use) and
- * spoilt its image ok (a firmware stays), which is refusal 2. docs/ARCHITECTURE.md has all that a board owes.
+ * not confirmed. The other trailer operations are taken up again, unless the last erase of scratch's trailer left its magic (the trailers are
+ * being exchanged): with its image ok (the firmware stays) spoilt that is refusal 2; with image ok gone a permanent exchange or a revert goes on
+ * as a test, which the next start takes back (after a revert, the failed firmware runs again); with image ok 01 a test is for good.
+ * docs/ARCHITECTURE.md has all that a board owes.
  *
  * The flash
  * ---------
@@ -102,8 +104,7 @@
  *   6    scale_mark, scale_confirm: an exchange is under way       what they held before
  *   7    scale_confirm: slot 0 is not a firmware on trial (magic   what they held before
  *        good, copy done 01, image ok unset)
- *   8    a unit to be written is not erased (no flash is known     the counted operations are done
- *        that gives it)
+ *   8    a unit to be written is not erased (never comes: proved)  the counted operations are done
  *
  * They are asked in this order: starting 1, 2, then as things come; marking 1, 2, 6, 5; confirming 1, 2, 6, 7.
  *
@@ -117,11 +118,8 @@
  *
  * Trailing records
  * ----------------
- * An image is a header, a body and then its trailing records; every number in it is little endian. Of the header: the size of the records
- * in bytes stands at 4 (2 bytes), the header size at 8 (2), the body size at 12 (4). So the records of an image that scale_check_image
- * accepts begin at header size + body size, and fill their size exactly, one behind the other. A record is its type (1 byte), a pad byte,
- * its length (2 bytes), and then that many bytes. Type 1 is the digest of header and body, 32 bytes; the loader gives no other type
- * a meaning, so that a version or a key may stand in a record of any other type. scale_record_at walks over them.
+ * The loader gives no type but 1 a meaning, so that a version or a key may stand in a record of any other type. In an image that
+ * scale_check_image accepts the records fill their r bytes exactly. scale_record_at walks over them.
  */
 #ifndef SCALE_H
 #define SCALE_H
@@ -217,9 +215,10 @@ scale_record scale_record_at(const uint8_t *records, size_t length, size_t at);
  * At most `allowance` operations are carried out, in their order, and the areas then hold exactly what these leave. Give UINT64_MAX
  * to go to the end. After SCALE_END_STOPPED call it again: it goes on from the flash alone.
  *
- * Give at least sector / unit + 2: an exchange that is due or under way is then done after at most 3 * m + 3 starts (m = sectors - 1). A start
- * that is stopped in a move begins that move again, from its erase: with less, calling it again and again never ends, and wears out one
- * sector. A whole exchange is 3 * m * (sector / unit + 2) + 8 + 2 * p + 32 / unit operations; p is 0 for a test, else 1.
+ * Give at least sector / unit + 2: an exchange that is due or under way is then done after at most 3 * m + 2 starts (m = sectors - 1). A start
+ * that is stopped in a move begins that move again, from its erase. So with less, as long as more than copy done is left of an exchange, all
+ * starts are stopped, however many, and wear out the same sector. A whole exchange is
+ * 3 * m * (sector / unit + 2) + 8 + 2 * p + 32 / unit operations; p is 0 for a test, else 1.
  *
  * Refusals: 1, 2, 3, 8. With 1 and 2 nothing was written and count is 0.
  */
