@@ -7,6 +7,10 @@ wants() { # COMMAND PACKAGE
     fi
 }
 
+# How C programs are built: warnings as errors, and address and undefined-behaviour checks where they are asked for.
+warnings="-Wall -Wextra -Wpedantic -Werror"
+checks="-g -fsanitize=address,undefined -fno-sanitize-recover=all"
+
 # Ends with status 9 where the program, the archive in it included, touches memory that it was not given, or does not give it back.
 under_valgrind="valgrind -q --error-exitcode=9 --leak-check=full"
 

@@ -1,16 +1,14 @@
-"""compare.py DRIVER [long] [SEED]: holds the driver's digests to those of hashlib, at every length from 0 to 300 and on random longer messages.
-The seed is fixed if it is not given; in the long mode it is the system's."""
+"""compare.py DRIVER [long] [SEED]: holds the driver's digests to those of hashlib, at every length from 0 to 300 and on random longer messages."""
 import hashlib
 import random
 import struct
 import subprocess
 import sys
 
+from seed import chosen
+
 driver, *words = sys.argv[1:]
-long = words[:1] == ['long']
-given = words[long:]
-seed = int(given[0]) if given else random.SystemRandom().randrange(2**32) if long else 2026
-print('digest: seed %d (again: tests/digest/run %s%d)' % (seed, 'long ' if long else '', seed), flush=True)
+long, seed = chosen('digest', words)
 rng = random.Random(seed)
 times = 10 if long else 1
 messages = [rng.randbytes(length) for length in range(301)]

@@ -1,11 +1,11 @@
-"""compare.py DRIVER [long] [SEED]: holds the driver's answers to the model's, on images whole and damaged in every way, short and long.
-The seed is fixed if it is not given; in the long mode it is the system's."""
+"""compare.py DRIVER [long] [SEED]: holds the driver's answers to the model's, on images whole and damaged in every way, short and long."""
 import random
 import struct
 import subprocess
 import sys
 
 import model
+from seed import chosen
 
 
 def others(rng, most):
@@ -95,10 +95,7 @@ def cases(rng, count):
 
 def main():
     driver, *words = sys.argv[1:]
-    long = words[:1] == ['long']
-    given = words[long:]
-    seed = int(given[0]) if given else random.SystemRandom().randrange(2**32) if long else 2026
-    print('image: seed %d (again: tests/image/run %s%d)' % (seed, 'long ' if long else '', seed), flush=True)
+    long, seed = chosen('image', words)
     images = list(cases(random.Random(seed), 200_000 if long else 20_000))
     sent = b''.join(struct.pack('<Q', len(lent)) + lent for lent in images)
     run = subprocess.run([driver], input=sent, stdout=subprocess.PIPE, check=False)
