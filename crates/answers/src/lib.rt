@@ -1,4 +1,6 @@
 // What the loader answers.
+#![tactic(auto)]
+
 use causes::Cause;
 use plan::Done;
 

@@ -1,4 +1,6 @@
 // The list in force, carried out under an allowance.
+#![tactic(auto)]
+
 ghost use Rattle.std.specs.Prelude.{◌≡◌, ℕ, ◌-◌, List, ◌++◌, [], true};
 ghost use Rattle.flash.specs.Base.{build, all_moves};
 ghost use Rattle.flash.specs.Small.{Small};

@@ -1,4 +1,6 @@
 // What the image check answers, and why; specs/Image.antt says what an image is, specs/Check.antt gives each answer.
+#![tactic(auto)]
+
 ghost use Rattle.std.specs.Prelude.{◌≡◌};
 ghost use Rattle.causes.specs.Check.{number_of};
 

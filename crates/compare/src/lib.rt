@@ -1,4 +1,6 @@
 // Whether bytes of an area are blank, or those that are wanted. What is not there is neither.
+#![tactic(auto)]
+
 ghost use Rattle.std.specs.Prelude.{◌≡◌, ◌-◌, ◌≤◌, length};
 ghost use Rattle.spans.specs.Bytes.{blank, part, same};
 

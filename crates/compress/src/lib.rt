@@ -1,4 +1,6 @@
 // The 64 turns, and the sum with the hash value before them: 6.2.2, steps 2 to 4.
+#![tactic(auto)]
+
 ghost use Rattle.std.specs.Prelude.{◌≡◌, ◌+◌, ◌<◌, ◌≤◌};
 ghost use Rattle.fips.specs.Fips.{rounds, plus};
 ghost use Rattle.fips.specs.Fips as Fips;

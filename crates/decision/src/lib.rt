@@ -1,4 +1,6 @@
 // A, B and C, by the bytes of the trailer sectors: t0 of slot 0, t1 of slot 1, t2 of scratch.
+#![tactic(auto)]
+
 ghost use Rattle.std.specs.Prelude.{◌≡◌};
 ghost use Rattle.flash.specs.Base.{build};
 ghost use Rattle.flash.specs.Small.{Small};

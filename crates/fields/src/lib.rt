@@ -1,4 +1,6 @@
 // Fields of an image, little endian: numbers of two and of four bytes.
+#![tactic(auto)]
+
 ghost use Rattle.std.specs.Prelude.{◌≡◌, ◌+◌, ◌<◌, ◌≤◌, length};
 ghost use Rattle.fields.specs.Fields.{field};
 

@@ -1,4 +1,6 @@
 // FIPS 180-4: specs/Fips.antt is the standard. Here its words are read and written as bytes, the highest byte first.
+#![tactic(auto)]
+
 ghost use Rattle.std.specs.Prelude.{◌≡◌, ◌+◌, ◌%◌, ◌≤◌, ◌<◌, length};
 ghost use Rattle.spans.specs.Bytes.{part, put};
 ghost use Rattle.spans.specs.Words.{number, bytes_of};

@@ -1,4 +1,6 @@
 // Whether a geometry and the lengths of the areas are document 01's: refusal 1.
+#![tactic(auto)]
+
 ghost use Rattle.std.specs.Prelude.{◌≡◌, ◌≤◌, ◌<◌};
 ghost use Rattle.spans.specs.Choice.{every};
 ghost use Rattle.flash.specs.Small.{Small};

@@ -1,3 +1,5 @@
+#![tactic(auto)]
+
 ghost use Rattle.std.specs.Prelude.{◌≡◌, ◌+◌, ◌≤◌, ◌<◌};
 ghost use Rattle.flash.specs.Geometry.{start_of, place_of, unit_at, units_per_sector, first_unit, further, after, beyond, bytes_in, units_in};
 ghost use Rattle.flash.specs.Geometry.{last_sector, slot_bytes, data_bytes};

@@ -1,4 +1,6 @@
 // The image check: header, trailing records, digest. It writes nothing.
+#![tactic(auto)]
+
 ghost use Rattle.std.specs.Prelude.{◌≡◌, ◌≤◌, length};
 ghost use Rattle.causes.specs.Check.{cause_of, digest_at, check};
 

@@ -1,4 +1,6 @@
 // A plain start's answer as the words of document 01's line: what was done, c as found, the count, then how it ended and its number.
+#![tactic(auto)]
+
 use answers::numbers::Numbers;
 use libc::STDOUT_FILENO;
 

@@ -1,4 +1,6 @@
 // The lines of the trailer exchange that lie in one area, marking, and erases of the first sectors of an area.
+#![tactic(auto)]
+
 ghost use Rattle.std.specs.Prelude.{◌≡◌, ◌≤◌};
 ghost use Rattle.flash.specs.Build.{Area, trailer_sector};
 ghost use Rattle.flash.specs.Base.{build};

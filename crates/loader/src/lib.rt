@@ -1,4 +1,6 @@
 // The loader: the plain start and the full start; specs/PowerUp.antt says what each does.
+#![tactic(auto)]
+
 ghost use Rattle.std.specs.Prelude.{◌≡◌};
 ghost use Rattle.plan.specs.Asked.{flash_of};
 ghost use Rattle.loader.specs.PowerUp.{result, full_start, power_up};

@@ -1,4 +1,6 @@
 // Marking and confirming; specs/Marking.antt says what each does.
+#![tactic(auto)]
+
 ghost use Rattle.std.specs.Prelude.{◌≡◌};
 ghost use Rattle.plan.specs.Asked.{flash_of};
 ghost use Rattle.marking.specs.Marking.{mark_result, marking, confirming};

@@ -1,4 +1,6 @@
 // The data exchange: the moves, each with its mark, and copy done.
+#![tactic(auto)]
+
 ghost use Rattle.std.specs.Prelude.{◌≡◌, ◌*◌, ◌-◌, ◌%◌, ◌≤◌, ◌<◌, drop};
 ghost use Rattle.flash.specs.Build.{Area};
 ghost use Rattle.flash.specs.Base.{build, all_moves};

@@ -1,4 +1,6 @@
 // The two operations on a lent area, under an allowance: erase a sector, write units.
+#![tactic(auto)]
+
 ghost use Rattle.std.specs.Prelude.{◌≡◌, ◌+◌, ◌*◌, ◌-◌, ◌/◌, ◌≤◌, min, length, ltb};
 ghost use Rattle.spans.specs.Bytes.{part, put};
 ghost use Rattle.spans.specs.Blanks.{blanks};

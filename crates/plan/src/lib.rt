@@ -1,4 +1,5 @@
 // Definitions alone: the courses that a power-up can take, and their lists of operations. They stand in specs/, Lists first.
+#![tactic(auto)]
 
 // The course that a power-up takes.
 #[derive(Drop)]

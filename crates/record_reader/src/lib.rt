@@ -1,5 +1,7 @@
 // The trailing records, one after the other, through a reader that borrows their area and remembers its place. Each function takes the
 // reader apart and leaves the work to the function that the walk goes by; whoever calls `record_at` needs to know nothing of a reader.
+#![tactic(auto)]
+
 ghost use Rattle.std.specs.Prelude.{◌≡◌};
 ghost use Rattle.records.specs.Records.{step_at};
 

@@ -1,4 +1,6 @@
 // The trailing records: what stands at a place of their area, and the walk over all of them.
+#![tactic(auto)]
+
 ghost use Rattle.std.specs.Prelude.{◌≡◌, ◌+◌, ◌^◌, ◌<◌, ◌≤◌, length};
 ghost use Rattle.records.specs.Records.{step_at, records};
 ghost use Rattle.records.specs.Walk.{Walked, walked, place_or_cause};

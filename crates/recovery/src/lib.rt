@@ -1,1 +1,2 @@
 // Theorems alone: what power failures can do to an exchange, and what they cannot. They stand in specs/, Demand3 first.
+#![tactic(auto)]

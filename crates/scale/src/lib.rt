@@ -1,4 +1,6 @@
 // The C boundary: include/scale.h has the C side. Each function passes its arguments on, and answers in document 01's numbers.
+#![tactic(auto)]
+
 ghost use Rattle.std.specs.Prelude.{◌≡◌};
 ghost use Rattle.causes.specs.Check.{cause_of, check};
 ghost use Rattle.records.specs.Records.{step_at};

@@ -1,4 +1,6 @@
 // SHA-256 of FIPS 180-4.
+#![tactic(auto)]
+
 mod blocks;
 mod padding;
 

@@ -1,4 +1,6 @@
 // Document 01's show program: the plain start on a dump of slot 0, slot 1 and scratch (write unit 1, sectors of 512, 2 of them per slot).
+#![tactic(auto)]
+
 use flash::Geometry;
 use libc::STDIN_FILENO;
 

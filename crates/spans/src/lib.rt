@@ -1,5 +1,7 @@
 // Numbers about a slice. Everything on slices is total: what lies beyond the end is not read and not written, as in the definitions of
 // part and put, so no caller has to show a length.
+#![tactic(auto)]
+
 ghost use Rattle.std.specs.Prelude.{◌≡◌, ◌-◌, min, get_or};
 
 pub fn least(a: usize, b: usize) -> usize

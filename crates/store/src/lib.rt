@@ -1,4 +1,6 @@
 // Stores in an area: what lies beyond the end of a slice is neither read nor written, as in the definitions of part and put.
+#![tactic(auto)]
+
 ghost use Rattle.std.specs.Prelude.{◌≡◌, ◌*◌, ◌-◌, ◌/◌, ◌≤◌, min, length};
 ghost use Rattle.spans.specs.Bytes.{put, blank, part};
 ghost use Rattle.spans.specs.Blanks.{blanks};

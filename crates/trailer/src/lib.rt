@@ -1,4 +1,6 @@
 // The trailer: what its places hold is defined in specs/, Trailer first; here its bytes are found.
+#![tactic(auto)]
+
 ghost use Rattle.std.specs.Prelude.{◌≡◌, ◌≤◌, drop};
 ghost use Rattle.flash.specs.Geometry.{start_of};
 ghost use Rattle.flash.specs.Build.{slot0, scratch, trailer_sector};

@@ -1,4 +1,6 @@
 // Marks, image ok and magic, written in the trailer sector of one area.
+#![tactic(auto)]
+
 ghost use Rattle.std.specs.Prelude.{◌≡◌, ◌+◌, ◌*◌, ◌-◌, ◌%◌, ◌≤◌, ◌<◌};
 ghost use Rattle.flash.specs.Geometry.{start_of, unit_at, after};
 ghost use Rattle.flash.specs.Build.{Area, trailer_sector};
