@@ -153,6 +153,7 @@ pub fn data_bytes(g: Geometry) -> Bytes
     Bytes((g.sectors - 1) * g.sector)
 }
 
+#[tactic(auto, unfolding(crate::specs::Base::base))]
 pub fn scratch_bytes(g: Geometry) -> Bytes
     requires { Small g }
     ensures { result ≡ scratch_bytes (build g) }
