@@ -5,12 +5,12 @@ use Rattle.flash.specs.declared.Geometry.{Geometry}
 use Rattle.flash.specs.Build.{Flash}
 use Rattle.answers.specs.declared.Answer.{Answer}
 use Rattle.answers.specs.declared.Marked.{Marked}
-use Rattle.loader.specs.PowerUp.{Result, result, full_start}
+use Rattle.loader.specs.PowerUp.{Result, result_of, full_start}
 use Rattle.marking.specs.Marking.{MarkResult, mark_result}
 
 -- the function was called with the areas f, and left the answer a and the areas f' (its `ensures`, word for word)
 pub record Start (checked : Bool) (g : Geometry) (b : ℕ) (f : Flash) (a : Answer) (f' : Flash) : Type 0 where
-  pub promised : result a f' ≡ full_start checked g b f
+  pub promised : result_of a f' ≡ full_start checked g b f
 
 -- some answer meets it, whatever the function was called with
 pub met : (checked : Bool) (g : Geometry) (b : ℕ) (f : Flash) → Start checked g b f (full_start checked g b f).answer (full_start checked g b f).flash

@@ -24,8 +24,8 @@ pub record Result : Type 0 where
   pub flash : Flash
 
 -- an answer with what the areas then hold, as the promises pair them
-abbrev pub result : Answer → Flash → Result
-result a f = record { answer = a; flash = f }
+abbrev pub result_of : Answer → Flash → Result
+result_of a f = record { answer = a; flash = f }
 
 -- ---- D
 

@@ -15,7 +15,7 @@ use Rattle.moves.specs.Areas.{state}
 use Rattle.answers.specs.declared.Refusal.{Refusal}
 use Rattle.answers.specs.declared.Outcome.{Outcome}
 use Rattle.answers.specs.declared.Answer.{Answer}
-use Rattle.loader.specs.PowerUp.{result, boot_of, ended, carried, answered, refused, is_damage, on_course}
+use Rattle.loader.specs.PowerUp.{result_of, boot_of, ended, carried, answered, refused, is_damage, on_course}
 
 -- whether slot 0 is booted rests on slot 0 alone
 ended_slot0 : (checked : Bool) (g : Geometry) (x0 x1 x2 : List ℕ) (e : End) → ended checked g (flash_of x0 [] []) e
@@ -28,7 +28,7 @@ ended_slot0 checked g x0 x1 x2 End.Unerased = refl
 pub took : (checked : Bool) (g : Geometry) (b : ℕ) (course : Course) (x0 x1 x2 : List ℕ) (r : Run) (done : Done) (found : ℕ)
     (outcome : Outcome)
     → done ≡ done_of course → found ≡ found_of course → outcome ≡ ended checked g (flash_of x0 [] []) r.end
-    → result (record { done = done; found = found; count = b - r.left; outcome = outcome }) (flash_of x0 x1 x2)
+    → result_of (record { done = done; found = found; count = b - r.left; outcome = outcome }) (flash_of x0 x1 x2)
     ≡ answered checked g b course (state x0 x1 x2 r)
 unfolding answered
 took checked g b course x0 x1 x2 r done found outcome d f o = rw (d, f, o, ended_slot0 checked g x0 x1 x2 r.end) refl
@@ -59,8 +59,8 @@ module _ (checked : Bool) (g : Geometry) (b : ℕ) (f : Flash) where
 -- ---- refusals, as code answers them
 
 pub refusing : (a : Answer) (r : Refusal) (f : Flash)
-    → (a.done ≡ Done.None) × ((a.found ≡ 0) × ((a.count ≡ 0) × (a.outcome ≡ Outcome.Refused r))) → result a f ≡ refused r f
+    → (a.done ≡ Done.None) × ((a.found ≡ 0) × ((a.count ≡ 0) × (a.outcome ≡ Outcome.Refused r))) → result_of a f ≡ refused r f
 unfolding refused
 refusing a r f e =
-    let same : result a f ≡ result (record { done = a.done; found = a.found; count = a.count; outcome = a.outcome }) f = refl in
+    let same : result_of a f ≡ result_of (record { done = a.done; found = a.found; count = a.count; outcome = a.outcome }) f = refl in
     same ∙ rw (e.0, e.1.0, e.1.1.0, e.1.1.1) refl

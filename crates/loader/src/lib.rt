@@ -3,7 +3,7 @@
 
 ghost use Rattle.std.specs.Prelude.{◌≡◌};
 ghost use Rattle.plan.specs.Asked.{flash_of};
-ghost use Rattle.loader.specs.PowerUp.{result, full_start, power_up};
+ghost use Rattle.loader.specs.PowerUp.{result_of, full_start, power_up};
 
 use answers::{Answer, Refusal};
 use flash::Geometry;
@@ -19,8 +19,8 @@ pub fn full_start(
     allowance: u64,
     checked: bool,
 ) -> Answer
-    ensures* { λ r. ⌜ result r (flash_of slot0.new slot1.new scratch.new)
-        ≡ full_start checked g allowance (flash_of slot0.old slot1.old scratch.old) ⌝ }
+    ensures { result_of result (flash_of slot0.new slot1.new scratch.new)
+        ≡ full_start checked g allowance (flash_of slot0.old slot1.old scratch.old) }
 {
     if fit::taken(g, slot0.len(), slot1.len(), scratch.len()) {
         starts::start_taken(g, slot0, slot1, scratch, allowance, checked)
@@ -37,8 +37,8 @@ pub fn power_up(
     scratch: &mut [u8],
     allowance: u64,
 ) -> Answer
-    ensures* { λ r. ⌜ result r (flash_of slot0.new slot1.new scratch.new)
-        ≡ power_up g allowance (flash_of slot0.old slot1.old scratch.old) ⌝ }
+    ensures { result_of result (flash_of slot0.new slot1.new scratch.new)
+        ≡ power_up g allowance (flash_of slot0.old slot1.old scratch.old) }
 {
     full_start(g, slot0, slot1, scratch, allowance, false)
 }

@@ -6,7 +6,7 @@ ghost use Rattle.causes.specs.Check.{accepted, head, check};
 ghost use Rattle.plan.specs.Asked.{flash_of};
 ghost use Rattle.plan.specs.Bounds.{in_bounds};
 ghost use Rattle.plan.specs.Decision.{decide};
-ghost use Rattle.loader.specs.PowerUp.{result, judged_start, started, data_of, ended, carried, answered, is_damage, on_course};
+ghost use Rattle.loader.specs.PowerUp.{result_of, judged_start, started, data_of, ended, carried, answered, is_damage, on_course};
 
 use answers::{Answer, Outcome, Refusal};
 use causes::{Header, Verdict};
@@ -14,7 +14,7 @@ use flash::{End, Geometry, Run};
 use plan::{Course, Done};
 
 pub fn refuse(refusal: Refusal) -> Answer
-    ensures* { λ r. ⌜ (r.done ≡ Done.None) × ((r.found ≡ 0) × ((r.count ≡ 0) × (r.outcome ≡ Outcome.Refused refusal))) ⌝ }
+    ensures { (result.done ≡ Done.None) × ((result.found ≡ 0) × ((result.count ≡ 0) × (result.outcome ≡ Outcome.Refused refusal))) }
 {
     Answer {
         done: Done::None,
@@ -27,7 +27,7 @@ pub fn refuse(refusal: Refusal) -> Answer
 // The data bytes of a slot.
 fn data_of(g: Geometry, slot: &[u8]) -> &[u8]
     requires { Small g }
-    ensures* { λ r. ⌜ r.now ≡ data_of g slot.now ⌝ }
+    ensures { result.now ≡ data_of g slot.now }
 {
     let bytes = flash::data_bytes(g);
     let end = spans::least(bytes.0, slot.len());
@@ -36,7 +36,7 @@ fn data_of(g: Geometry, slot: &[u8]) -> &[u8]
 
 fn slot_accepted(g: Geometry, slot: &[u8]) -> bool
     requires { Small g }
-    ensures* { λ r. ⌜ r ≡ accepted (data_of g slot.now) ⌝ }
+    ensures { result ≡ accepted (data_of g slot.now) }
 {
     match image::check(data_of(g, slot)) {
         Verdict::Accepted => true,
@@ -47,8 +47,8 @@ fn slot_accepted(g: Geometry, slot: &[u8]) -> bool
 // A, B and C, and the image check where C asks for it.
 fn decided(g: Geometry, slot0: &[u8], slot1: &[u8], scratch: &[u8]) -> Course
     requires { Small g }
-    ensures* { λ r. ⌜ (r ≡ decide accepted (build g) (flash_of slot0.now slot1.now scratch.now)) ×
-        (in_bounds (build g) r ≡ true) ⌝ }
+    ensures { (result ≡ decide accepted (build g) (flash_of slot0.now slot1.now scratch.now)) ×
+        (in_bounds (build g) result ≡ true) }
 {
     let asked = decision::asks(g, slot0, slot1, scratch);
     if decision::course::wants_check(asked) {
@@ -60,7 +60,7 @@ fn decided(g: Geometry, slot0: &[u8], slot1: &[u8], scratch: &[u8]) -> Course
 
 // The check of slot 0, if it is chosen.
 fn checked_boot(image: &[u8], offset: usize) -> Outcome
-    ensures* { λ r. ⌜ r ≡ judged_start offset (check image.now) ⌝ }
+    ensures { result ≡ judged_start offset (check image.now) }
 {
     match image::check(image) {
         Verdict::Accepted => Outcome::Boot(offset),
@@ -70,7 +70,7 @@ fn checked_boot(image: &[u8], offset: usize) -> Outcome
 
 // D for the data bytes of slot 0.
 fn boot_data(image: &[u8], checked: bool) -> Outcome
-    ensures* { λ r. ⌜ r ≡ started checked (head image.now) (check image.now) ⌝ }
+    ensures { result ≡ started checked (head image.now) (check image.now) }
 {
     match image::header::head(image) {
         Header::Bad(_) => Outcome::Refused(Refusal::Header),
@@ -90,7 +90,7 @@ fn boot_data(image: &[u8], checked: bool) -> Outcome
 
 fn outcome_of(g: Geometry, slot0: &[u8], end: End, checked: bool) -> Outcome
     requires { Small g }
-    ensures* { λ r. ⌜ r ≡ ended checked g (flash_of slot0.now [] []) end ⌝ }
+    ensures { result ≡ ended checked g (flash_of slot0.now [] []) end }
 {
     match end {
         End::Going => boot_data(data_of(g, slot0), checked),
@@ -111,9 +111,9 @@ fn take_course(
 ) -> Answer
     requires small { Small g }
     requires course_value { in_bounds (build g) course ≡ true }
-    ensures* { λ r. ⌜ result r (flash_of slot0.new slot1.new scratch.new)
+    ensures { result_of result (flash_of slot0.new slot1.new scratch.new)
         ≡ answered checked g allowance course (carried g allowance
-        (flash_of slot0.old slot1.old scratch.old) course) ⌝ }
+        (flash_of slot0.old slot1.old scratch.old) course) }
 {
     let all = Run {
         left: allowance,
@@ -130,7 +130,7 @@ fn take_course(
 }
 
 fn is_damage(course: Course) -> bool
-    ensures* { λ r. ⌜ r ≡ is_damage course ⌝ }
+    ensures { result ≡ is_damage course }
 {
     match course {
         Course::Damage => true,
@@ -154,9 +154,9 @@ pub fn start_taken(
     checked: bool,
 ) -> Answer
     requires { Small g }
-    ensures* { λ r. ⌜ result r (flash_of slot0.new slot1.new scratch.new)
+    ensures { result_of result (flash_of slot0.new slot1.new scratch.new)
         ≡ on_course checked g allowance (flash_of slot0.old slot1.old scratch.old)
-        (decide accepted (build g) (flash_of slot0.old slot1.old scratch.old)) ⌝ }
+        (decide accepted (build g) (flash_of slot0.old slot1.old scratch.old)) }
 {
     let course = decided(g, slot0, slot1, scratch);
     if is_damage(course) {

@@ -8,7 +8,7 @@ use Rattle.answers.specs.declared.numbers.MarkNumbers.{MarkNumbers}
 use Rattle.answers.specs.Numbers.{answer_numbers, marked_numbers}
 use Rattle.answers.specs.declared.Answer.{Answer}
 use Rattle.answers.specs.declared.Marked.{Marked}
-use Rattle.loader.specs.PowerUp.{Result, result}
+use Rattle.loader.specs.PowerUp.{Result, result_of}
 use Rattle.marking.specs.Marking.{MarkResult, mark_result}
 
 -- "a write unit of w bytes", "a sector of s bytes", "n sectors per slot"
@@ -38,7 +38,7 @@ one_numbered {N} p q = (ap (λ (x : Numbered N). x.numbers) (p ∙ sym q), ap (�
 
 -- ---- laws for the code: the answer in numbers, beside the areas that it left
 
-pub start_told : (a : Answer) (n : Numbers) (f : Flash) (r : Result) → n ≡ answer_numbers a → result a f ≡ r → numbered n f ≡ start_numbered r
+pub start_told : (a : Answer) (n : Numbers) (f : Flash) (r : Result) → n ≡ answer_numbers a → result_of a f ≡ r → numbered n f ≡ start_numbered r
 unfolding start_numbered
 start_told a n f r told left = cc
 
