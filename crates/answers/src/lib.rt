@@ -7,7 +7,7 @@ use plan::Done;
 pub mod numbers;
 
 // Why a request is refused; specs/Numbers.antt gives document 01's numbers.
-#[derive(Drop)]
+#[derive(Clone, Copy)]
 pub enum Refusal {
     // geometry or area lengths wrong
     Geometry,
@@ -28,14 +28,14 @@ pub enum Refusal {
 }
 
 // How a power-up ends.
-#[derive(Drop)]
+#[derive(Clone, Copy)]
 pub enum Outcome {
     Boot(usize),
     Stopped,
     Refused(Refusal),
 }
 
-#[derive(Drop)]
+#[derive(Clone, Copy)]
 pub struct Answer {
     pub done: Done,
     pub found: usize,
@@ -44,13 +44,13 @@ pub struct Answer {
 }
 
 // How marking and confirming end.
-#[derive(Drop)]
+#[derive(Clone, Copy)]
 pub enum Ending {
     Written,
     Refused(Refusal),
 }
 
-#[derive(Drop)]
+#[derive(Clone, Copy)]
 pub struct Marked {
     pub ending: Ending,
     pub count: u64,

@@ -8,7 +8,7 @@ use plan::Done;
 
 // The answer of a start; a field that does not apply is 0.
 #[repr(C)]
-#[derive(Drop)]
+#[derive(Clone, Copy)]
 pub struct Numbers {
     pub done: u64,
     pub found: u64,
@@ -21,7 +21,7 @@ pub struct Numbers {
 
 // The answer of marking and confirming.
 #[repr(C)]
-#[derive(Drop)]
+#[derive(Clone, Copy)]
 pub struct MarkNumbers {
     pub refusal: u64,
     pub count: u64,

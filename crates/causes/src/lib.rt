@@ -5,7 +5,7 @@ ghost use Rattle.std.specs.Prelude.{◌≡◌};
 ghost use Rattle.causes.specs.Check.{number_of};
 
 // Why an image is rejected; specs/Check.antt gives the numbers.
-#[derive(Drop)]
+#[derive(Clone, Copy)]
 pub enum Cause {
     HeaderMagic,
     HeaderSizes,
@@ -14,14 +14,14 @@ pub enum Cause {
     DigestDiffers,
 }
 
-#[derive(Drop)]
+#[derive(Clone, Copy)]
 pub enum Verdict {
     Accepted,
     Rejected(Cause),
 }
 
 // What the header comes to: cause 1 or 2, or the three sizes.
-#[derive(Drop)]
+#[derive(Clone, Copy)]
 pub enum Header {
     Bad(Cause),
     Good {
@@ -32,7 +32,7 @@ pub enum Header {
 }
 
 // What the bytes come to before the digest: a cause from 1 to 4, or how many bytes the digest covers and where it stands.
-#[derive(Drop)]
+#[derive(Clone, Copy)]
 pub enum Layout {
     Wrong(Cause),
     Sound { covered: usize, digest: usize },

@@ -6,7 +6,7 @@ ghost use Rattle.fips.specs.Fips.{T₁, T₂, round};
 ghost use Rattle.compress.specs.Variables.{eight};
 
 // The working variables a to h, or a hash value.
-#[derive(Drop)]
+#[derive(Clone, Copy)]
 pub struct Work {
     pub a: u32,
     pub b: u32,

@@ -8,7 +8,7 @@ ghost use Rattle.flash.specs.Base.{build};
 ghost use Rattle.flash.specs.Small.{Small};
 
 // The write unit's bytes, the sector's bytes, the sectors of a slot.
-#[derive(Drop)]
+#[derive(Clone, Copy)]
 pub struct Geometry {
     pub unit: usize,
     pub sector: usize,
@@ -16,24 +16,24 @@ pub struct Geometry {
 }
 
 // A sector number, a write-unit number and a byte offset count three things.
-#[derive(Drop)]
+#[derive(Clone, Copy)]
 pub struct Sector(pub usize);
 
-#[derive(Drop)]
+#[derive(Clone, Copy)]
 pub struct Unit(pub usize);
 
-#[derive(Drop)]
+#[derive(Clone, Copy)]
 pub struct Offset(pub usize);
 
 // How many units, and how many bytes.
-#[derive(Drop)]
+#[derive(Clone, Copy)]
 pub struct Units(pub usize);
 
-#[derive(Drop)]
+#[derive(Clone, Copy)]
 pub struct Bytes(pub usize);
 
 // How carrying out a list of operations stands.
-#[derive(Drop)]
+#[derive(Clone, Copy)]
 pub enum End {
     // no operation was left out so far
     Going,
@@ -44,7 +44,7 @@ pub enum End {
 }
 
 // What is left of the allowance, and how it stands.
-#[derive(Drop)]
+#[derive(Clone, Copy)]
 pub struct Run {
     pub left: u64,
     pub end: End,

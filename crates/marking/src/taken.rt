@@ -22,7 +22,7 @@ pub fn refuse(refusal: Refusal) -> Marked
 }
 
 // 2 and 6, or nothing against it.
-#[derive(Drop)]
+#[derive(Clone, Copy)]
 pub enum Standing {
     Free,
     Refused(Refusal),

@@ -6,7 +6,7 @@ use records::Step;
 
 // What was found, and of a record its type, where its bytes start, and how many they are; else these are 0.
 #[repr(C)]
-#[derive(Drop)]
+#[derive(Clone, Copy)]
 pub struct RecordNumbers {
     pub found: u64,
     pub kind: u64,

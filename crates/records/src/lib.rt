@@ -7,7 +7,7 @@ ghost use Rattle.records.specs.Walk.{Walked, walked, place_or_cause};
 
 // What stands at a place of an area of records: nothing more, bytes that make no whole record, or a record, whose size bytes begin
 // at start.
-#[derive(Drop)]
+#[derive(Clone, Copy)]
 pub enum Step {
     End,
     Stump,
