@@ -45,6 +45,7 @@ pub fn slot_trailer(g: Geometry, slot: &[u8]) -> &[u8]
     from_sector(g, slot, last)
 }
 
+#[tactic(auto, unfolding(flash::specs::Base::base))]
 pub fn scratch_trailer(g: Geometry, area: &[u8]) -> &[u8]
     requires { Small g }
     ensures { result.now ≡ drop (start_of g (trailer_sector (build g) scratch)).0 area.now }
