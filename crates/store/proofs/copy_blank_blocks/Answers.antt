@@ -15,9 +15,9 @@ loop-k-init c =
 
 pub copy_within-requires : goal.copy_within-requires
 copy_within-requires c = record {
-      size_in_bounds = omega arith;
-      size_in_bounds_2 = omega (arith, simp length_put at (ap length c.loop-k.invariant.1));
-    }
+  size_in_bounds = omega arith;
+  size_in_bounds_2 = omega (arith, simp length_put at (ap length c.loop-k.invariant.1));
+}
 
 pub loop-k-preserved : goal.loop-k-preserved
 loop-k-preserved c =
