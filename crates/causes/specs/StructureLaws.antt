@@ -88,6 +88,8 @@ pub data Comes (xs : List ℕ) (area : List ℕ) (covered : ℕ) : Layout → Ty
 
 as_many : (xs : List ℕ) (ps : List Place) (ds : List Trailing) → Placed xs ps ds → length ps ≡ length ds
 as_many xs [] [] Placed.none = refl
+as_many xs [] (d ∷ ds) w = elim w [ ]
+as_many xs (p ∷ ps) [] w = elim w [ ]
 as_many xs (p ∷ ps) (d ∷ ds) (Placed.more h w) = ap suc (as_many xs ps ds w)
 
 -- the records of type 1 and their places, counted

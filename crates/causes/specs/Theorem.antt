@@ -107,6 +107,9 @@ module _ (xs : List ℕ) where
   bad HeaderMagic (Heads.no_magic l n) = When.no_magic l n
   bad HeaderSizes (Heads.small_header l m h) = When.small_header l m h
   bad HeaderSizes (Heads.sum_above l m h) = When.sum_above l m h
+  bad RecordsArea w = elim w [ ]
+  bad DigestRecord w = elim w [ ]
+  bad DigestDiffers w = elim w [ ]
 
   module _ (g : GoodHeader xs) where
     digest_of : (covered at : ℕ) → covered ≡ covered_size xs → (rs : List Trailing) → Fills (records_area xs) rs →
@@ -132,6 +135,9 @@ module _ (xs : List ℕ) where
     passed (Wrong DigestRecord) (Comes.not_one rs f n) = When.not_one g rs f n
     passed (Sound covered at) (Comes.sound rs f d o s) = digest_of covered at refl rs f d o s (same (part xs at 32) (sha256
         (take covered xs))) refl
+    passed (Wrong HeaderMagic) w = elim w [ ]
+    passed (Wrong HeaderSizes) w = elim w [ ]
+    passed (Wrong DigestDiffers) w = elim w [ ]
 
   -- The check's answer is due.
   pub given : When xs (check xs)
@@ -160,6 +166,9 @@ module _ (xs : List ℕ) (g : GoodHeader xs) (rs : List Trailing) (f : Fills (re
           let same_digest : c ≡ d = cc in
           let stands : part xs at 32 ≡ d.bytes = s.bytes_are ∙ ap (λ (t : Trailing). t.bytes) same_digest in
           check_of xs (Sound covered at) e ∙ rw stands
+      by (Wrong HeaderMagic) e w = elim w [ ]
+      by (Wrong HeaderSizes) e w = elim w [ ]
+      by (Wrong DigestDiffers) e w = elim w [ ]
 
   given_not_one : ((d : Trailing) → OneDigest rs d → ⊥) → check xs ≡ Rejected DigestRecord
   unfolding digest_at
@@ -169,6 +178,9 @@ module _ (xs : List ℕ) (g : GoodHeader xs) (rs : List Trailing) (f : Fills (re
       by (Wrong RecordsArea) e (Comes.not_filled m) = absurd (m rs f)
       by (Wrong DigestRecord) e (Comes.not_one qs q m) = check_of xs (Wrong DigestRecord) e
       by (Sound covered at) e (Comes.sound qs q c p s) = absurd (n c (rw (one_filling (records_area xs) qs rs q f) at p))
+      by (Wrong HeaderMagic) e w = elim w [ ]
+      by (Wrong HeaderSizes) e w = elim w [ ]
+      by (Wrong DigestDiffers) e w = elim w [ ]
 
 given_not_filled : (xs : List ℕ) → GoodHeader xs → ((rs : List Trailing) → Fills (records_area xs) rs → ⊥) → check xs ≡ Rejected RecordsArea
 unfolding digest_at
@@ -178,6 +190,9 @@ given_not_filled xs g n = by (structure xs) refl (comes xs g)
     by (Wrong RecordsArea) e (Comes.not_filled m) = check_of xs (Wrong RecordsArea) e
     by (Wrong DigestRecord) e (Comes.not_one qs q m) = absurd (n qs q)
     by (Sound covered at) e (Comes.sound qs q c p s) = absurd (n qs q)
+    by (Wrong HeaderMagic) e w = elim w [ ]
+    by (Wrong HeaderSizes) e w = elim w [ ]
+    by (Wrong DigestDiffers) e w = elim w [ ]
 
 part_between : (ys zs ws : List ℕ) (at size : ℕ) → length ys ≡ at → length zs ≡ size → part (ys ++ (zs ++ ws)) at size ≡ zs
 unfolding part

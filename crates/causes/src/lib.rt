@@ -39,6 +39,7 @@ pub enum Layout {
 }
 
 // The number that document 01 gives a cause.
+#[tactic(auto, unfolding(crate::specs::Check::number_of))]
 pub fn number(cause: Cause) -> u32
     ensures { result ≡ number_of cause }
 {
