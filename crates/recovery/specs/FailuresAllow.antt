@@ -5,7 +5,8 @@ use Rattle.spans.specs.Bytes.{part}
 use Rattle.flash.specs.Build.{Area, Build, Flash, area, valid}
 use Rattle.flash.specs.Operations.{Op, erase, write, copy, run}
 use Rattle.flash.specs.Harm.{Cut}
-use Rattle.flash.specs.HarmAllows.{target, begins, CanLeave, torn_erase, torn_write, torn_copy}
+use Rattle.flash.specs.HarmAllows.{target, begins, CanLeave}
+use Rattle.flash.proofs.HarmAllows.{torn_erase, torn_write, torn_copy}
 use Rattle.recovery.specs.Cuts.{at_cut}
 use Rattle.recovery.specs.Statement.{Failures, never, again}
 use Rattle.recovery.specs.Validity.{valid_same}
