@@ -7,6 +7,7 @@ ghost use Rattle.trailer.specs.Trailer.{copy_done_at, mark_of, is_unset, has_val
 use crate::mark::{has_value, is_unset, mark_in};
 use flash::{Geometry, Offset};
 
+#[tactic(auto, unfolding(flash::specs::Base::base))]
 pub fn done_place(g: Geometry) -> Offset
     requires { Small g }
     ensures { result ≡ copy_done_at (build g) }

@@ -7,6 +7,7 @@ ghost use Rattle.trailer.specs.Trailer.{ok_at, mark_of, is_unset, has_value};
 use crate::mark::{has_value, is_unset, mark_in};
 use flash::{Geometry, Offset};
 
+#[tactic(auto, unfolding(flash::specs::Base::base))]
 pub fn ok_place(g: Geometry) -> Offset
     requires { Small g }
     ensures { result ≡ ok_at (build g) }

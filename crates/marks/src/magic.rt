@@ -7,6 +7,7 @@ ghost use Rattle.trailer.specs.Trailer.{magic_at, magic_bytes, magic_of, is_good
 use flash::{Geometry, Offset};
 use trailer::Magic;
 
+#[tactic(auto, unfolding(flash::specs::Base::base))]
 pub fn magic_place(g: Geometry) -> Offset
     requires { Small g }
     ensures { result ≡ magic_at (build g) }
@@ -14,6 +15,7 @@ pub fn magic_place(g: Geometry) -> Offset
     Offset(g.sector - 16)
 }
 
+#[tactic(auto, unfolding(trailer::specs::Trailer::magic_bytes))]
 pub fn magic_bytes() -> [u8; 16]
     ensures { result ≡ magic_bytes }
 {

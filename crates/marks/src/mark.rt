@@ -24,6 +24,7 @@ pub fn mark_in(g: Geometry, t: &[u8], place: Offset) -> Mark
     }
 }
 
+#[tactic(auto, unfolding(trailer::specs::Trailer::is_unset))]
 pub fn is_unset(m: Mark) -> bool
     ensures { result ≡ is_unset m }
 {
@@ -34,6 +35,7 @@ pub fn is_unset(m: Mark) -> bool
     }
 }
 
+#[tactic(auto, unfolding(trailer::specs::Trailer::has_value))]
 pub fn has_value(want: u8, m: Mark) -> bool
     ensures { result ≡ has_value want m }
 {

@@ -1,0 +1,18 @@
+use Rattle.std.proofs.Common.{ap, arith, rules, ◌∙◌}
+use Rattle.flash.specs.declared.Offset.{Offset}
+use Rattle.flash.specs.Base.{base, build}
+use Rattle.trailer.specs.Trailer.{mark_of, is_unset}
+use Rattle.marks.proofs.copy_done.done_unset.Goals as goal
+
+pub mark_in-requires : goal.mark_in-requires
+unfolding base
+mark_in-requires c = record {
+  small = search rules;
+  place_le_sector = omega (arith, ap (λ (o : Offset). o.0) c.done_place.ensures);
+}
+
+pub returns : goal.returns
+returns c =
+    let a = c.args in
+    let mark = c.mark_in.ensures ∙ ap (mark_of (build a.g) a.t.now) c.done_place.ensures in
+    c.is_unset.ensures ∙ ap is_unset mark
