@@ -9,7 +9,7 @@ use records::{Step, step_at};
 
 pub mod numbers;
 
-#[derive(Drop)]
+#[derive(Clone, Copy)]
 pub struct Reader<'a> {
     pub area: &'a [u8],
     pub at: usize,

@@ -14,6 +14,7 @@ pub struct RecordNumbers {
     pub size: u64,
 }
 
+#[tactic(auto, unfolding(crate::specs::Numbers::step_numbers))]
 pub fn of_step(step: Step) -> RecordNumbers
     ensures { result ≡ step_numbers step }
 {
