@@ -1,4 +1,4 @@
-// The C boundary: include/scale.h has the C side. Each function passes its arguments on, and answers in document 01's numbers.
+// The functions of the C boundary, which `scale_c` exports. Each passes its arguments on, and answers in document 01's numbers.
 #![tactic(auto)]
 
 ghost use Rattle.std.specs.Prelude.{◌≡◌};
@@ -17,32 +17,28 @@ use flash::Geometry;
 use record_reader::numbers::RecordNumbers;
 
 // SHA-256 of the message, into the digest.
-#[unsafe(no_mangle)]
-pub extern "C" fn scale_sha256(message: &[u8], digest: &mut [u8; 32])
+pub fn scale_sha256(message: &[u8], digest: &mut [u8; 32])
     ensures { digest.new ≡ sha256 message.now }
 {
     sha256::digest(message, digest);
 }
 
 // 0 where the bytes begin with an image, else the cause.
-#[unsafe(no_mangle)]
-pub extern "C" fn scale_check_image(image: &[u8]) -> u32
+pub fn scale_check_image(image: &[u8]) -> u32
     ensures { result ≡ cause_of (check image.now) }
 {
     image::cause_number(image)
 }
 
 // What stands at a place of the trailing records.
-#[unsafe(no_mangle)]
-pub extern "C" fn scale_record_at(records: &[u8], at: usize) -> RecordNumbers
+pub fn scale_record_at(records: &[u8], at: usize) -> RecordNumbers
     ensures { result ≡ step_numbers (step_at records.now at) }
 {
     record_reader::numbers::of_step(record_reader::record_at(records, at))
 }
 
 // The plain start.
-#[unsafe(no_mangle)]
-pub extern "C" fn scale_power_up(
+pub fn scale_power_up(
     unit: usize,
     sector: usize,
     sectors: usize,
@@ -64,8 +60,7 @@ pub extern "C" fn scale_power_up(
 }
 
 // The full start.
-#[unsafe(no_mangle)]
-pub extern "C" fn scale_full_start(
+pub fn scale_full_start(
     unit: usize,
     sector: usize,
     sectors: usize,
@@ -88,8 +83,7 @@ pub extern "C" fn scale_full_start(
 }
 
 // Marks slot 1.
-#[unsafe(no_mangle)]
-pub extern "C" fn scale_mark(
+pub fn scale_mark(
     unit: usize,
     sector: usize,
     sectors: usize,
@@ -111,8 +105,7 @@ pub extern "C" fn scale_mark(
 }
 
 // Confirms slot 0.
-#[unsafe(no_mangle)]
-pub extern "C" fn scale_confirm(
+pub fn scale_confirm(
     unit: usize,
     sector: usize,
     sectors: usize,
