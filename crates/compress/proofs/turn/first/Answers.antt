@@ -1,0 +1,7 @@
+use Rattle.compress.specs.Variables.{eight}
+use Rattle.fips.specs.Fips.{T₁}
+use Rattle.compress.proofs.turn.first.Goals as goal
+
+pub returns : goal.returns
+unfolding T₁ eight
+returns c = cc

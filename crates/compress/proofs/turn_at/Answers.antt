@@ -1,0 +1,6 @@
+use Rattle.compress.specs.Turns.{turn}
+use Rattle.compress.proofs.turn_at.Goals as goal
+
+pub returns : goal.returns
+unfolding turn
+returns c = cc
