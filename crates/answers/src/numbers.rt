@@ -27,6 +27,7 @@ pub struct MarkNumbers {
     pub count: u64,
 }
 
+#[tactic(auto, unfolding(crate::specs::Numbers::done_number))]
 fn done(done: Done) -> u64
     ensures { result ≡ done_number done }
 {
@@ -40,6 +41,7 @@ fn done(done: Done) -> u64
     }
 }
 
+#[tactic(auto, unfolding(crate::specs::Numbers::refusal_number))]
 fn refusal(refusal: Refusal) -> u64
     ensures { result ≡ refusal_number refusal }
 {
@@ -55,6 +57,7 @@ fn refusal(refusal: Refusal) -> u64
     }
 }
 
+#[tactic(auto, unfolding(crate::specs::Numbers::refusal_cause))]
 fn refusal_cause(refusal: Refusal) -> u64
     ensures { result ≡ refusal_cause refusal }
 {
@@ -70,6 +73,7 @@ fn refusal_cause(refusal: Refusal) -> u64
     }
 }
 
+#[tactic(auto, unfolding(crate::specs::Numbers::end_number))]
 fn end(outcome: Outcome) -> u64
     ensures { result ≡ end_number outcome }
 {
@@ -80,6 +84,7 @@ fn end(outcome: Outcome) -> u64
     }
 }
 
+#[tactic(auto, unfolding(crate::specs::Numbers::offset_number))]
 fn offset(outcome: Outcome) -> u64
     ensures { result ≡ offset_number outcome }
 {
@@ -90,6 +95,7 @@ fn offset(outcome: Outcome) -> u64
     }
 }
 
+#[tactic(auto, unfolding(crate::specs::Numbers::outcome_refusal))]
 fn outcome_refusal(outcome: Outcome) -> u64
     ensures { result ≡ outcome_refusal outcome }
 {
@@ -100,6 +106,7 @@ fn outcome_refusal(outcome: Outcome) -> u64
     }
 }
 
+#[tactic(auto, unfolding(crate::specs::Numbers::outcome_cause))]
 fn outcome_cause(outcome: Outcome) -> u64
     ensures { result ≡ outcome_cause outcome }
 {
@@ -110,6 +117,7 @@ fn outcome_cause(outcome: Outcome) -> u64
     }
 }
 
+#[tactic(auto, unfolding(crate::specs::Numbers::ending_refusal))]
 fn ending_refusal(ending: Ending) -> u64
     ensures { result ≡ ending_refusal ending }
 {
