@@ -3,7 +3,7 @@ use Rattle.std.specs.Prelude.{◌≡◌}
 use Rattle.std.proofs.Common.{sym, ◌∙◌, arith}
 use Rattle.std.proofs.Math.Path.{ap, subst}
 use mathlib.Core.List.{List, [], ◌∷◌, ◌++◌}
-use Prim.Native.Nat.{ℕ, zero, suc, ◌+◌, ◌-◌, ◌≤◌, ◌<◌}
+use Prim.Native.Nat.{ℕ, suc, ◌+◌, ◌-◌, ◌≤◌, ◌<◌}
 use Rattle.std.proofs.Math.Decide.{dec_le}
 use Rattle.std.proofs.Math.ListN.{length, length-append}
 use Rattle.flash.specs.Build.{Build, Flash}
@@ -30,13 +30,17 @@ record LeftWithin {g : Build} (most : ℕ) (cs : List (Chunk g)) (n : ℕ) : Typ
   within : Within most cs starts
 
 left_within : {g : Build} {most n : ℕ} {cs ds : List (Chunk g)} → LeftOf cs ds → Within most ds n → LeftWithin most cs n
-left_within {n = n} all_left w = record { starts = n; fewer = omega arith; within = w }
-left_within (past l) (chunk h w) =
-    let r = left_within l w in record { starts = r.starts; fewer = omega (arith, r.fewer); within = r.within }
-left_within {most = most} (past all_left) (two {c} {d} {n = n} h w) =
-    let short : length d.ops ≤ most = omega arith in record { starts = suc n; fewer = omega arith; within = chunk short w }
-left_within (past (past l)) (two h w) =
-    let r = left_within l w in record { starts = r.starts; fewer = omega (arith, r.fewer); within = r.within }
+left_within {g} {most} = go
+  where
+    go : {cs ds : List (Chunk g)} {n : ℕ} → LeftOf cs ds → Within most ds n → LeftWithin most cs n
+    go {n = n} all_left w = record { starts = n; fewer = omega arith; within = w }
+    go (past l) (chunk h w) =
+        let r = go l w in record { starts = r.starts; fewer = omega (arith, r.fewer); within = r.within }
+    go (past all_left) (two {c} {d} {n = n} h w) =
+        let short : length d.ops ≤ most = omega arith in
+        record { starts = suc n; fewer = omega arith; within = chunk short w }
+    go (past (past l)) (two h w) =
+        let r = go l w in record { starts = r.starts; fewer = omega (arith, r.fewer); within = r.within }
 
 -- a chunk of more operations is among them
 pub data HasLong {g : Build} (most : ℕ) : List (Chunk g) → Type 1 where

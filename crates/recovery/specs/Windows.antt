@@ -26,6 +26,7 @@ module _ {g : Build} {A : Type 0} {W : Flash → A} where
   hidden_run (one {x = op} h hs) f = hidden_run hs (apply g op f) ∙ h.done f
 
   pub hidden_cut : {ops : List Op} → All (Hidden g W) ops → {f f' : Flash} → Cut g ops f f' → W f' ≡ W f
+  hidden_cut none x = elim x [ ]
   hidden_cut (one h hs) {f} {f'} (here t) = h.torn f f' t
   hidden_cut (one h hs) {f} (later c) = hidden_cut hs c ∙ h.done f
 
