@@ -7,13 +7,14 @@ mod padding;
 ghost use Rattle.std.specs.Prelude.{◌≡◌, ◌++◌, ◌+◌, ◌≤◌, length};
 ghost use Rattle.spans.specs.Bytes.{put};
 ghost use Rattle.spans.specs.Words.{bytes_of};
-ghost use Rattle.fips.specs.Fips.{H₀, result, sha256};
+ghost use Rattle.fips.specs.Fips.{H₀, sha256};
+ghost use Rattle.fips.specs.Fips as Fips;
 ghost use Rattle.compress.specs.Variables.{eight};
 
 use compress::turn::Work;
 
 fn start() -> Work
-    ensures* { λ r. ⌜ eight r ≡ H₀ ⌝ }
+    ensures { eight result ≡ H₀ }
 {
     Work {
         a: 0x6a09e667,
@@ -29,7 +30,7 @@ fn start() -> Work
 
 fn put_four(area: &mut [u8], at: usize, a: u32, b: u32, c: u32, d: u32)
     requires { at + 16 ≤ length area.old }
-    ensures* { λ _. ⌜ area.new ≡ put area.old at (bytes_of 4 a ++ bytes_of 4 b ++ bytes_of 4 c ++ bytes_of 4 d) ⌝ }
+    ensures { area.new ≡ put area.old at (bytes_of 4 a ++ bytes_of 4 b ++ bytes_of 4 c ++ bytes_of 4 d) }
 {
     fips::put_word(area, at, a);
     fips::put_word(area, at + 4, b);
@@ -38,7 +39,7 @@ fn put_four(area: &mut [u8], at: usize, a: u32, b: u32, c: u32, d: u32)
 }
 
 fn result_of(h: Work) -> [u8; 32]
-    ensures* { λ r. ⌜ r ≡ result (eight h) ⌝ }
+    ensures { result ≡ Fips.result (eight h) }
 {
     let mut out = [0u8; 32];
     put_four(&mut out, 0, h.a, h.b, h.c, h.d);
@@ -48,7 +49,7 @@ fn result_of(h: Work) -> [u8; 32]
 
 // The digest of a message of any length.
 pub fn digest(message: &[u8], out: &mut [u8; 32])
-    ensures* { λ _. ⌜ out.new ≡ sha256 message.now ⌝ }
+    ensures { out.new ≡ sha256 message.now }
 {
     let full = message.len() / 64;
     let mut tail = [0u8; 128];
