@@ -7,7 +7,7 @@ SHELL := /bin/bash
 DUMP ?= dumps/interrupted.dump
 SECONDS ?= 600
 archive := target/staticlib/libscale.a
-sources := crates.txt $(shell find crates -type f)
+sources := crates.txt $(shell find crates -name out -prune -o -type f -print)
 cflags := -std=c99 -O2 -Wall -Wextra -Iinclude
 
 .PHONY: help example show archive digest test bench-digest bench-exchange bench-image fuzz

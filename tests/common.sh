@@ -16,8 +16,6 @@ under_valgrind="valgrind -q --error-exitcode=9 --leak-check=full"
 
 # Made anew where it is missing or older than the code.
 archive=target/staticlib/libscale.a
-if [ ! -f $archive ] || [ -n "$(find crates crates.txt -type f -newer $archive | head -n 1)" ]; then
-    echo "proving and building the archive (minutes the first time, seconds after that)" >&2
-    mkdir -p target
-    rt staticlib scale >target/archive.log 2>&1 || { cat target/archive.log >&2; exit 1; }
+if [ ! -f $archive ] || [ -n "$(find crates crates.txt -name out -prune -o -type f -newer $archive -print | head -n 1)" ]; then
+    tools/prove archive scale >&2
 fi
