@@ -174,7 +174,7 @@ ARCHITECTURE = f"""# It
 | `base/src/lib.rt` | sizes | 3 |
 | `code/specs/Laws.antt` | what holds | 2 |
 
-{OF_LIBRARY} `_≡_` `ℕ`
+{OF_LIBRARY} `ℕ` `◌≡◌`
 
 ### {TRIED_TABLE}
 {HEADING}
@@ -184,19 +184,19 @@ ARCHITECTURE = f"""# It
 ## {LINKS}
 | Sentence | Where |
 |---|---|
-| it goes | `it-goes` (`code/specs/Laws.antt`), promise of `code::go` |
+| it goes | `it_goes` (`code/specs/Laws.antt`), promise of `code::go` |
 ### {TRIED}
-| one | `goes-once` |
+| one | `goes_once` |
 ## Rest
 """
 SPECS = """-- bytes
-use Prim.Native.Nat.{ℕ}
-use Rattle·base·specs.specs.declared.Size.{Size}
+use Rattle.std.specs.Prelude.{ℕ}
+use Rattle.base.specs.declared.Size.{Size}
 unfoldable pub twice : ℕ → ℕ
 twice n = n + {- not
 reached -} n
-abbrev pub sizeOf : Size → ℕ
-sizeOf s = s .bytes
+abbrev pub size_of : Size → ℕ
+size_of s = s.bytes
 unfoldable pub unused : ℕ → ℕ
 unused n = n
 abbrev pub once : ℕ
@@ -204,22 +204,23 @@ once = 1
 pub data Big (n : ℕ) : Type 0 where
   big : Big n
 """
-LAWS = """use mathlib.Core.Path.{_≡_, refl}
-use Rattle·base.specs.declared.Size.{Size}
-use Rattle·base.specs.Bytes as bytes
-use Rattle·base.specs.Bytes.{Big, unused}
-module _ (s : Size) (b : Big (s .bytes)) where
-  holds : bytes.twice (s .bytes) ≡ 2
-  pub it-goes : holds
+LAWS = """use Rattle.std.specs.Prelude.{◌≡◌}
+use Rattle.std.proofs.Common.{refl}
+use Rattle.base.specs.declared.Size.{Size}
+use Rattle.base.specs.Bytes as bytes
+use Rattle.base.specs.Bytes.{Big, unused}
+module _ (s : Size) (b : Big s.bytes) where
+  holds : bytes.twice s.bytes ≡ 2
+  pub it_goes : holds
   unfolding holds
-  it-goes = record { unused = unused }
-  pub goes-once : bytes.once ≡ 1
+  it_goes = record { unused = unused }
+  pub goes_once : bytes.once ≡ 1
 """
-CODE = """ghost use Prim.Native.Nat.{ℕ};
-ghost use Rattle·base.specs.Bytes.{sizeOf, unused};
-use base::Size;
+CODE = """ghost use Rattle.std.specs.Prelude.{ℕ};
+ghost use Rattle.base.specs.Bytes.{size_of, unused};
+use base::{Size};
 pub fn go(s: Size) -> usize
-    ensures { λ r. ⌜ r ≡ sizeOf s ⌝ }
+    ensures unused { result ≡ size_of s }
 {
     unused()
 }
@@ -246,12 +247,15 @@ def self_test():
     specs = "crates/base/specs/Bytes.antt"
     assert tried(arch, "# It", "# That") == []
     # one definition more: in a statement, in a section's parameter, in a contract, in another definition
-    for file, old, new in ((laws, "≡ 2", "≡ unused 2"), (laws, "(s .bytes))", "(unused (s .bytes)))"), (code, "≡ sizeOf s", "≡ unused (sizeOf s)"),
-                           (specs, "= s .bytes", "= unused (s .bytes)"), (specs, "big : Big n", "big : Big (unused n)")):
+    for file, old, new in ((laws, "≡ 2", "≡ unused 2"), (laws, "(b : Big s.bytes)", "(b : Big (unused s.bytes))"),
+                           (code, "≡ size_of s", "≡ unused (size_of s)"), (code, "result ≡", "(unused s).now ≡"), (code, "result ≡", "unused.now ≡"),
+                           (specs, "= s.bytes", "= unused s.bytes"), (specs, "big : Big n", "big : Big (unused n)")):
         assert tried(file, old, new) == ["base/specs/Bytes.antt"], (file, old)
-    # a definition less; the field of a record and a proof count for nothing
-    assert tried(laws, "bytes.twice (s .bytes)", "s .bytes") == ["base/specs/Bytes.antt"]
+    # a definition less; the field of a record, a projection, a clause's name and a proof count for nothing
+    assert tried(laws, "bytes.twice s.bytes", "s.bytes") == ["base/specs/Bytes.antt"]
     assert tried(laws, "{ unused = unused }", "{ unused = 1 }") == []
+    for new in ("s.unused ≡", "(size_of s).unused ≡", "s.bytes.unused ≡", "λ (r : Size). r ≡"):
+        assert tried(code, "result ≡", new) == [], new
     # another row, none, another count, no subject
     assert tried(arch, "| `base/src/lib.rt` | sizes | 3 |\n", "") == ["base/src/lib.rt"]
     assert tried(arch, "| sizes |", "|  |") == ["base/src/lib.rt"]
@@ -259,13 +263,14 @@ def self_test():
     assert tried(arch, "| `base/src/lib.rt`", "| `code/src/lib.rt` | code | 3 |\n| `base/src/lib.rt`") == ["code/src/lib.rt"]
     assert tried(arch, "| one byte | 2 |", "| one byte | 3 |") == ["base/specs/Bytes.antt"]
     assert tried(laws, "bytes.once ≡ 1", "bytes.twice 1 ≡ 1") == ["base/specs/Bytes.antt"]
-    assert tried(arch, " `ℕ`\n", " `ℕ` `refl`\n") == ["refl"]
-    assert tried(arch, " `_≡_`", "") == ["_≡_"]
+    assert tried(arch, " `◌≡◌`\n", " `◌≡◌` `refl`\n") == ["refl"]
+    assert tried(arch, " `◌≡◌`", "") == ["◌≡◌"]
     # links that lead nowhere; an entry point that asks something
     assert tried(arch, "(`code/specs/Laws.antt`)", "(`code/specs/Law.antt`)") == ["code/specs/Law.antt"]
-    assert "it-went" in tried(arch, "`it-goes`", "`it-went`")
+    assert "it_went" in tried(arch, "`it_goes`", "`it_went`")
     assert tried(arch, "`code::go`", "`code::went`") == ["code::went"]
-    assert tried(code, "    ensures", "    requires { ⌜ s ≡ s ⌝ }\n    ensures") == ["code::go"]
+    for asked in ("requires { s ≡ s }", "requires s_is_s { s ≡ s }"):
+        assert tried(code, "    ensures", f"    {asked}\n    ensures") == ["code::go"]
 
 
 def main():

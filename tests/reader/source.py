@@ -1,7 +1,8 @@
 """Reads the crates' specs and sources as far as `closure.py` needs: what each file declares, and what a name in it stands for."""
 import re
 
-LIBRARY = ("mathlib.", "lib.", "Prim.", "native.", "borrow.")
+# The library's modules, beside `Rattle.NAME` of a NAME that is no crate here.
+LIBRARY = ("mathlib.", "lib.", "Prim.", "native.", "borrow.", "tt.", "denote.", "base.", "types.")
 MARKS = {"unfoldable", "abbrev", "pub", "axiom"}
 TOKEN = re.compile(r'[^\s(){}.;,@"«»]+|[(){};,.@"«»]')
 USE = re.compile(r"(?:pub )?use (\S+?)(?:\.\{(.*)\}| as (\S+))?$")
@@ -12,15 +13,15 @@ class Unread(Exception):
 
 
 def names(text):
-    """The names of a text, as (name, qualifier or None). Projections (`f .in0`), fields of a `record` and named arguments are none."""
+    """The names of a text, as (name, qualifier or None). Projections (`f.in0`), fields of a `record` and named arguments are none."""
     found = [(m.group(), m.start()) for m in TOKEN.finditer(text)]
     i = 0
     while i < len(found):
         word, at = found[i]
         end = at + len(word)
         if word == ".":
-            # with space in front of it a projection, else the end of a λ's binders
-            i += 2 if at and text[at - 1].isspace() else 1
+            # with a word right behind it a projection, else the end of a λ's binders
+            i += 2 if text[end: end + 1].strip() else 1
         elif word in '(){};,@"«»' or i and found[i - 1][0] in "{;" and i + 1 < len(found) and found[i + 1][0] == "=":
             i += 1
         elif text[end: end + 1] == "." and text[end + 1: end + 2].strip():
@@ -144,8 +145,10 @@ class Source(File):
         for n, line in enumerate(lines):
             if m := re.match(r"ghost use (.*);$", line):
                 self.use("use " + m[1])
-            elif m := re.match(r"use (\w+(?:::\w+)+);$", line):
-                self.imports[m[1].split("::")[-1]] = m[1]
+            elif m := re.match(r"(?:pub )?use ((?:\w+::)+)(?:(\w+)|\{(.*)\});$", line):
+                self.imports.update({name: m[1] + name for name in re.findall(r"\w+", m[2] or m[3])})
+            elif re.match(r"(?:pub )?(?:ghost )?use\b", line):
+                raise Unread(f"{file}:{n + 1}: an import that is not understood: {line}")
             elif m := re.match(r"(?:pub )?(struct|enum) (\w+)", line):
                 end = n if line.endswith(";") else lines.index("}", n)
                 one = self.declared[m[2]] = Declaration(file, m[2], True)
@@ -155,9 +158,11 @@ class Source(File):
                 end = next(k for k in range(n, len(lines)) if re.search(r"^\{$|[)>\w] \{$", lines[k]))
                 one = self.functions[m[2]] = Declaration(file, m[2], False)
                 one.public = bool(m[1])
-                head, *contract = re.split(r"^ +(?=requires|ensures)", "\n".join(lines[n: end + 1]).rsplit("{", 1)[0], flags=re.M)
-                one.add([k + 1 for k in range(n, end + 1) if lines[k] not in ("", "{")], "\n".join([self.words(head), *contract]))
-                one.asks = any(part.startswith("requires") for part in contract)
+                head, *contract = re.split(r"^ +(requires|ensures)\b\*?(?: \w+)?", "\n".join(lines[n: end + 1]).rsplit("{", 1)[0], flags=re.M)
+                # `result` is what the function returns, and a clause's name none of its words
+                clauses = [re.sub(r"(?<![\w.])result\b", "", clause) for clause in contract[1::2]]
+                one.add([k + 1 for k in range(n, end + 1) if lines[k] not in ("", "{")], "\n".join([self.words(head), *clauses]))
+                one.asks = "requires" in contract[::2]
 
     def words(self, text):
         """Source is written closer than specs: `Reader<'a>`."""
@@ -171,7 +176,8 @@ class Tree:
         crates = root / "crates"
         self.crates = sorted(path.name for path in crates.iterdir())
         self.files = {}
-        for kind, pattern in ((Specs, "*/specs/*.antt"), (Source, "*/src/**/*.rt")):
+        # a theorem stands in specs/, or in a file right in proofs/: so it does where an edit of a definition under it must be refused there
+        for kind, pattern in ((Specs, "*/specs/*.antt"), (Specs, "*/proofs/*.antt"), (Source, "*/src/**/*.rt")):
             for path in sorted(crates.glob(pattern)):
                 file = path.relative_to(crates).as_posix()
                 self.files[file] = kind(file, path.read_text())
@@ -182,11 +188,11 @@ class Tree:
     def resolve(self, file, name, qualifier):
         """A Declaration; the name of a library's, as text; or None for a local name or a word of the language."""
         here = self.files[file]
-        if (qualifier or name).startswith("Rattle·"):
+        if (qualifier or name) == "Rattle":
             raise Unread(f"{file}: a name by its whole path")
         if qualifier in here.aliases:
             return self.imported(file, name, here.aliases[qualifier])
-        for known in (name, f"_{name}_") if qualifier is None else (qualifier,):
+        for known in (name, f"◌{name}◌") if qualifier is None else (qualifier,):
             if known in here.declared:
                 return here.declared[known]
             if known in here.imports:
@@ -194,23 +200,24 @@ class Tree:
         return None
 
     def imported(self, file, name, module):
-        if module.startswith(LIBRARY):
-            return name
         if "::" in module:
             # `answers::numbers::Numbers`: a type of source, or a function, which no contract can speak of
             crate, *inner, name = re.sub(r"^crate::", file.split("/")[0] + "::", module).split("::")
             target = self.files.get(f"{crate}/src/{'/'.join(inner) or 'lib'}.rt")
             return target.declared.get(name) if target else None
-        # `Rattle·plan.specs.Lists`; in the crate itself `Rattle·plan·specs.specs.Lists`; `..declared.numbers.Numbers` for a type of source
-        m = re.match(r"Rattle·(\w+?)(?:·specs)?\.specs\.(declared\.)?(.+?)(?:\.the-variants)?$", module)
+        owner = re.match(r"Rattle\.(\w+)\.", module)
+        if module.startswith(LIBRARY) or owner and owner[1] not in self.crates:
+            return name
+        # `Rattle.plan.specs.Lists` or `Rattle.flash.proofs.HarmAllows`; `..declared.numbers.Numbers` for a type of source, and `.TheVariants` behind it for the variants of an enum
+        m = re.match(r"Rattle\.(\w+)\.(specs|proofs)\.(declared\.)?(.+?)(?:\.TheVariants)?$", module)
         if not m:
             raise Unread(f"{file}: a module that is not understood: {module}")
-        crate, declared, path = m.groups()
+        crate, folder, declared, path = m.groups()
         if declared:
             *inner, name = path.split(".")
             path = f"{crate}/src/{'/'.join(inner) or 'lib'}.rt"
         else:
-            path = f"{crate}/specs/{path}.antt"
+            path = f"{crate}/{folder}/{path}.antt"
         if path not in self.files or name not in self.files[path].declared:
             raise Unread(f"{file}: {name} is not declared in {path}")
         return self.files[path].declared[name]
