@@ -43,6 +43,7 @@ fn standing_of(course: Course) -> Standing
     }
 }
 
+#[tactic(auto, unfolding(crate::specs::Marking::ending_of))]
 fn ending_of(end: End) -> Ending
     ensures { result ≡ ending_of end }
 {

@@ -1,0 +1,48 @@
+use Rattle.std.proofs.Common.{[], ap, arith, sym, true, ◌∙◌}
+use Rattle.flash.specs.declared.Sector.{Sector}
+use Rattle.flash.specs.Build.{Area}
+use Rattle.flash.specs.Base.{base, build}
+use Rattle.flash.specs.Operations.{local, going}
+use Rattle.plan.specs.Lists.{ok_ops}
+use Rattle.plan.specs.Asked.{flash_of}
+use Rattle.moves.specs.Areas.{state}
+use Rattle.writes.specs.InArea.{ok_in}
+use Rattle.marking.specs.MarkLaws.{left_of, confirmed_state, confirm_written, confirm_refused}
+use Rattle.marking.proofs.taken.confirm_free.Goals as goal
+
+pub write_ok-run-requires : goal.write_ok-run-requires
+write_ok-run-requires c =
+    let small = c.requires in
+    let last = ap (λ (i : Sector). i.0) c.last_sector-last.ensures in
+    record {
+      small = small;
+      i_bound = omega (arith, last, small);
+    }
+
+pub written-requires : goal.written-requires
+unfolding base
+written-requires c =
+    let given = c.args in
+    left_of given.g (ok_ops (build given.g) Area.slot0 true)
+    (state _ [] [] c.write_ok-run.result) 1 (flash_of given.slot0.now [] [])
+    (confirmed_state given.g given.slot0.now [] [] 1 _ _ (c.write_ok-run.ensures
+    ∙ ap (λ (i : Sector). ok_in given.g i true (local given.slot0.now (going 1)))
+    c.last_sector-last.ensures))
+
+pub returns-then-is_confirmable : goal.returns-then-is_confirmable
+unfolding base
+returns-then-is_confirmable c =
+    let given = c.args in
+    λ x1 x2. confirm_written given.g given.slot0.now x1 x2 c.written.result _ _
+    (sym c.is_confirmable.ensures ∙
+    c.if-is_confirmable.true)
+    (c.write_ok-run.ensures
+    ∙ ap (λ (i : Sector). ok_in given.g i true (local given.slot0.now (going 1)))
+    c.last_sector-last.ensures)
+    c.written.ensures
+
+pub returns-else-is_confirmable : goal.returns-else-is_confirmable
+returns-else-is_confirmable c =
+    let given = c.args in
+    λ x1 x2. confirm_refused given.g given.slot0.now x1 x2 c.refuse.result
+    (sym c.is_confirmable.ensures ∙ c.if-is_confirmable.false) c.refuse.ensures
