@@ -88,6 +88,7 @@ fn boot_data(image: &[u8], checked: bool) -> Outcome
     }
 }
 
+#[tactic(auto, unfolding(crate::specs::PowerUp::ended))]
 fn outcome_of(g: Geometry, slot0: &[u8], end: End, checked: bool) -> Outcome
     requires { Small g }
     ensures { result ≡ ended checked g (flash_of slot0.now [] []) end }
@@ -129,6 +130,7 @@ fn take_course(
     }
 }
 
+#[tactic(auto, unfolding(crate::specs::PowerUp::is_damage))]
 fn is_damage(course: Course) -> bool
     ensures { result ≡ is_damage course }
 {
