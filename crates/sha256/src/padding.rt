@@ -21,6 +21,8 @@ fn put_length(area: &mut [u8], at: usize, size: usize)
 }
 
 // The last blocks of the padded message, of which from bytes are behind, at the front of tail: how many they are.
+// Apart from digest, whose own array tail is, the copy stays a loop: there it would be a call of memcpy, and the archive needs memset alone.
+#[inline(never)]
 pub fn finish(message: &[u8], from: usize, tail: &mut [u8]) -> usize
     requires from_value { (from % 64 ≡ 0) × (from ≤ length message.now) × (length message.now < from + 64) }
     requires tail_value { tail.old ≡ replicate 128 0 }
