@@ -5,5 +5,4 @@ pub mod Edges
 pub mod LaidLaws
 pub mod CheckLaws
 pub mod StructureLaws
-pub mod Theorem
 pub mod Written

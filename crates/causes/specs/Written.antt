@@ -12,11 +12,8 @@ use Rattle.fips.specs.Fips.{sha256}
 use Rattle.fips.specs.Laws.{length_sha256}
 use Rattle.fields.specs.Fields.{little, field}
 use Rattle.records.specs.Records.{Trailing}
-use Rattle.causes.specs.declared.Verdict.TheVariants.{Accepted}
 use Rattle.causes.specs.Header.{header_magic, records_size, header_size, body_size}
-use Rattle.causes.specs.Check.{check}
 use Rattle.causes.specs.Image.{laid_one, laid, none, more, of_type, Image}
-use Rattle.causes.specs.Theorem.{accepts_images}
 
 -- "Other header fields are not read": the bytes at 6, 7, 10 and 11, and the sixteen from 16 on
 pub record Unread : Type 0 where
@@ -108,6 +105,3 @@ module _ (u : Unread) (sixteen : length u.from_16 ≡ 16) (body rest : List ℕ)
         of_32_bytes = length_sha256 covered;
         right = refl;
       }
-
-  pub written_accepted : length body < 4294967296 → check (written u body rest) ≡ Accepted
-  written_accepted short = accepts_images (written u body rest) (written_image short)

@@ -13,7 +13,7 @@ use Rattle.recovery.specs.Places.{Geo}
 use Rattle.recovery.specs.Named.{Place, Only, trailer_of}
 use Rattle.recovery.specs.Statement.{sector_of}
 use Rattle.recovery.specs.Validity.{of_valid}
-use Rattle.recovery.specs.Fresh.{Fresh}
+use Rattle.recovery.proofs.Fresh.{Fresh}
 use Rattle.answers.specs.declared.Refusal.{Refusal}
 use Rattle.answers.specs.declared.Ending.{Ending}
 use Rattle.answers.specs.declared.Marked.{Marked}

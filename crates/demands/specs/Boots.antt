@@ -10,13 +10,13 @@ use Rattle.flash.specs.Base.{base, build}
 use Rattle.flash.specs.Operations.{State, start, steps}
 use Rattle.causes.specs.Header.{header_size}
 use Rattle.causes.specs.Check.{head, check, accepted}
-use Rattle.causes.specs.Theorem.{accepts_images}
+use Rattle.causes.proofs.Theorem.{accepts_images}
 use Rattle.plan.specs.declared.Course.{Course}
 use Rattle.plan.specs.declared.Course.TheVariants.{Damage, FromLineThree, Resume, Test, Permanent, Revert, Clear, Nothing}
 use Rattle.plan.specs.Decision.{decide, in_force}
 use Rattle.plan.specs.Lengths.{one_if}
 use Rattle.recovery.specs.Statement.{Due, Failures, Swapped, sector_of}
-use Rattle.recovery.specs.NeverLost.{outcome_of}
+use Rattle.recovery.proofs.NeverLost.{outcome_of}
 use Rattle.recovery.specs.Demand3 as recovery
 use Rattle.answers.specs.declared.Answer.{Answer}
 use Rattle.answers.specs.declared.Outcome.{Outcome}

@@ -59,6 +59,9 @@ module _ (xs : List ℕ) where
   low HeaderMagic (Heads.no_magic l n) = omega arith
   low HeaderSizes (Heads.small_header l m h) = omega arith
   low HeaderSizes (Heads.sum_above l m h) = omega arith
+  low RecordsArea w = elim w [ ]
+  low DigestRecord w = elim w [ ]
+  low DigestDiffers w = elim w [ ]
 
   high : (l : Layout) → Comes xs (records_area xs) (covered_size xs) l → (c : Cause) → digest_at l xs ≡ Rejected c → 3 ≤ number_of c
   unfolding number_of digest_at
@@ -70,6 +73,9 @@ module _ (xs : List ℕ) where
       go : (t : Bool) → pick t Accepted (Rejected DigestDiffers) ≡ Rejected c → 3 ≤ number_of c
       go true e = let z : ◌≡◌ {A = ℕ} 0 1 = cc in absurd (omega arith)
       go false e = let k : DigestDiffers ≡ c = cc in subst (λ (x : Cause). 3 ≤ number_of x) k (omega arith)
+  high (Wrong HeaderMagic) w c e = elim w [ ]
+  high (Wrong HeaderSizes) w c e = elim w [ ]
+  high (Wrong DigestDiffers) w c e = elim w [ ]
 
   good : (checked : Bool) (v : Verdict) → check xs ≡ v → ((c : Cause) → check xs ≡ Rejected c → 3 ≤ number_of c)
       → AtD checked xs (pick checked (judged_start (header_size xs) v) (Outcome.Boot (header_size xs)))

@@ -14,7 +14,7 @@ use Rattle.trailer.specs.Trailer.{ok_at, copy_done_at, magic_of, is_good, mark_o
 use Rattle.causes.specs.declared.Verdict.{Verdict}
 use Rattle.causes.specs.Check.{check, is_accepted, accepted}
 use Rattle.causes.specs.Image.{Image}
-use Rattle.causes.specs.Theorem.{accepts_images, accepts_only_images}
+use Rattle.causes.proofs.Theorem.{accepts_images, accepts_only_images}
 use Rattle.plan.specs.declared.Course.{Course}
 use Rattle.plan.specs.declared.Course.TheVariants.{Damage, FromLineThree, Resume, Test, Permanent, Revert, Clear, Nothing}
 use Rattle.plan.specs.Asked.{asked_by, asks_check}

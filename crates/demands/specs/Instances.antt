@@ -25,7 +25,7 @@ use Rattle.plan.specs.Decision.{step_a, continue, step_b, state_c, asks, judged,
 use Rattle.plan.specs.DecisionLaws.{decide_checked}
 use Rattle.plan.specs.Asked.{asked_by}
 use Rattle.recovery.specs.Cuts.{at_cut}
-use Rattle.recovery.specs.Follows.{exchange_list}
+use Rattle.recovery.proofs.Follows.{exchange_list}
 use Rattle.recovery.specs.Statement.{Due, Exchange, by_test, by_permanent, by_revert, Failures, never, again}
 use Rattle.loader.specs.PowerUp.{data_of}
 use Rattle.demands.specs.Demand2.{image_accepted}

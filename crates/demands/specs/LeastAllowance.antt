@@ -12,14 +12,14 @@ use Rattle.flash.specs.Base.{build}
 use Rattle.flash.specs.Operations.{run, run_all}
 use Rattle.causes.specs.Header.{header_size}
 use Rattle.causes.specs.Check.{head, check, accepted}
-use Rattle.causes.specs.Theorem.{accepts_images}
+use Rattle.causes.proofs.Theorem.{accepts_images}
 use Rattle.plan.specs.declared.Course.{Course}
 use Rattle.plan.specs.Lists.{exchange}
 use Rattle.plan.specs.Decision.{decide, in_force}
 use Rattle.recovery.specs.All.{All}
 use Rattle.recovery.specs.Cuts.{stopped_cut}
 use Rattle.recovery.specs.Statement.{Failures, again, FinishedBy, at_last, once_more, AllStopped, no_more, once_more_stopped, Due}
-use Rattle.recovery.specs.NeverLost.{outcome_of}
+use Rattle.recovery.proofs.NeverLost.{outcome_of}
 use Rattle.recovery.specs.BaseMoves.{base_swaps}
 use Rattle.recovery.specs.Validity.{of_valid}
 use Rattle.recovery.specs.LeastAllowance as recovery

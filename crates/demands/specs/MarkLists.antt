@@ -22,7 +22,7 @@ use Rattle.recovery.specs.Hiding.{wipe_trailer, hidden_ok, hidden_magic}
 use Rattle.recovery.specs.Sectors.{sector_unwiped}
 use Rattle.recovery.specs.Named.{Only, trailer_of}
 use Rattle.recovery.specs.Begin.{trailer_ok}
-use Rattle.recovery.specs.Fresh.{Fresh, fresh_append, fresh_ok, fresh_magic, magic_behind_ok}
+use Rattle.recovery.proofs.Fresh.{Fresh, fresh_append, fresh_ok, fresh_magic, magic_behind_ok}
 use Rattle.demands.specs.MarkStatement.{ok_put, magic_put}
 
 -- magic that is read as Unset is erased

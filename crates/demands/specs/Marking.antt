@@ -17,8 +17,8 @@ use Rattle.recovery.specs.Cuts.{run_all_lem}
 use Rattle.recovery.specs.Places.{Geo}
 use Rattle.recovery.specs.Reading.{unset_blank}
 use Rattle.recovery.specs.Validity.{of_valid}
-use Rattle.recovery.specs.Fresh.{Fresh, fresh_ok}
-use Rattle.recovery.specs.Bridge.{fresh_steps}
+use Rattle.recovery.proofs.Fresh.{Fresh, fresh_ok}
+use Rattle.recovery.proofs.Bridge.{fresh_steps}
 use Rattle.answers.specs.declared.Refusal.{Refusal}
 use Rattle.answers.specs.declared.Ending.{Ending}
 use Rattle.answers.specs.declared.Marked.{Marked}

@@ -15,10 +15,10 @@ use Rattle.plan.specs.declared.Done.{Done}
 use Rattle.plan.specs.Decision.{decide, list_of, ok_unset, in_force, done_of}
 use Rattle.recovery.specs.Statement.{sector_of}
 use Rattle.recovery.specs.Validity.{of_valid}
-use Rattle.recovery.specs.Bridge.{in_force_steps}
+use Rattle.recovery.proofs.Bridge.{in_force_steps}
 use Rattle.recovery.specs.Named.{During, after_some, Only, named, Cleared}
-use Rattle.recovery.specs.Changes.{in_force_only, same_lengths}
-use Rattle.recovery.specs.ClearOut.{clear_out_only}
+use Rattle.recovery.proofs.Changes.{in_force_only, same_lengths}
+use Rattle.recovery.proofs.ClearOut.{clear_out_only}
 use Rattle.answers.specs.declared.Answer.{Answer}
 use Rattle.loader.specs.PowerUp.{Result, refused, is_damage, full_start}
 use Rattle.loader.specs.Results.{damaged}

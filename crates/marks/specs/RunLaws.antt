@@ -7,7 +7,7 @@ use native.Mathlib.Omega.{arith}
 use Rattle.spans.specs.Choice.{pick}
 use Rattle.flash.specs.Build.{Build}
 use Rattle.trailer.specs.Trailer.{mark_at, mark_of, is_unset, has_value, written, legal}
-use Rattle.trailer.specs.MarkRun.{written_none, written_more}
+use Rattle.trailer.proofs.MarkRun.{written_none, written_more}
 
 -- mark number k is as a run of c marks has it
 abbrev pub fits_run : Build → List ℕ → ℕ → ℕ → Bool

@@ -1,4 +1,3 @@
 pub mod Trailer
 pub mod MarkOrder
-pub mod MarkRun
 pub mod BytesFrom

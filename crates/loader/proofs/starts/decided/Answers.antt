@@ -4,7 +4,8 @@ use Rattle.causes.specs.Check.{accepted}
 use Rattle.plan.specs.Decision.{decide, judged}
 use Rattle.plan.specs.DecisionLaws.{decide_checked, decide_unchecked}
 use Rattle.plan.specs.Asked.{flash_of, asked_by, asks_check}
-use Rattle.plan.specs.Bounds.{in_bounds, asks_bounded, judged_bounded}
+use Rattle.plan.specs.Bounds.{in_bounds}
+use Rattle.plan.proofs.Bounds.{asks_bounded, judged_bounded}
 use Rattle.loader.specs.PowerUp.{data_of}
 use Rattle.loader.proofs.starts.decided.Goals as goal
 

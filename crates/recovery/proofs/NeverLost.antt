@@ -1,4 +1,5 @@
 -- For every sound build: an exchange that is cut any number of times ends as one that was never cut.
+-- ---- an exchange that is due under C is not under way
 use Rattle.std.specs.Prelude.{◌≡◌, refl, List, Bool, true, false, ℕ, ◌≤◌, length, take, ltb}
 use Rattle.std.proofs.Common.{sym, ap, ◌∙◌, arith, le-ltb}
 use Rattle.spans.specs.Choice.{pick}
@@ -14,10 +15,8 @@ use Rattle.plan.specs.Decision.{step_a, step_b, state_c, asks, judged, decide, i
 use Rattle.recovery.specs.Cuts.{run_all_lem}
 use Rattle.recovery.specs.Statement.{Failures, Exchange, by_test, by_permanent, by_revert, Due, Sound}
 use Rattle.recovery.specs.Validity.{Valid, of_valid}
-use Rattle.recovery.specs.Follows.{Way, follows}
-use Rattle.recovery.specs.Bridge.{in_force_steps}
-
--- ---- an exchange that is due under C is not under way
+use Rattle.recovery.proofs.Follows.{Way, follows}
+use Rattle.recovery.proofs.Bridge.{in_force_steps}
 
 exchanges : Course → Bool
 exchanges Damage = false

@@ -1,4 +1,5 @@
 -- Starts one after the other, each with an allowance of its own: how many it takes until a list that can be taken up again is done.
+-- ---- what starts with an allowance of `most` operations need
 use Rattle.std.specs.Prelude.{◌≡◌}
 use Rattle.std.proofs.Common.{sym, ◌∙◌, arith}
 use Rattle.std.proofs.Math.Path.{ap, subst}
@@ -12,9 +13,8 @@ use Rattle.flash.specs.Harm.{Cut}
 use Rattle.recovery.specs.All.{All, none, one}
 use Rattle.recovery.specs.Cuts.{run_all_lem, run_past, run_within, stopped_cut, run_all_append}
 use Rattle.recovery.specs.Statement.{Failures, FinishedBy, at_last, once_more, AllStopped, no_more, once_more_stopped}
-use Rattle.recovery.specs.Chunks.{Chunk, all_ops, LeftOf, all_left, past, Good, Stage, begins, plans, later_on, cut_chunks, stage}
-
--- ---- what starts with an allowance of `most` operations need
+use Rattle.recovery.proofs.Chunks.{all_left, past, stage}
+use Rattle.recovery.proofs.Chunks.{Chunk, all_ops, LeftOf, Good, Stage, begins, plans, later_on, cut_chunks}
 
 -- so many starts: one for each chunk, or for two that follow one another and are short
 pub data Within {g : Build} (most : ℕ) : List (Chunk g) → ℕ → Type 1 where

@@ -12,10 +12,10 @@ use Rattle.plan.specs.Lists.{exchange}
 use Rattle.plan.specs.Decision.{in_force}
 use Rattle.recovery.specs.Cuts.{stopped_cut}
 use Rattle.recovery.specs.Statement.{Failures, never, again, Due, Swapped, AsNeverCut, Sound}
-use Rattle.recovery.specs.Bridge.{in_force_steps}
+use Rattle.recovery.proofs.Bridge.{in_force_steps}
 use Rattle.plan.specs.Lengths.{one_if}
 use Rattle.recovery.specs.Validity.{Valid, of_valid}
-use Rattle.recovery.specs.NeverLost.{run_ends, steps_ends, steps_end}
+use Rattle.recovery.proofs.NeverLost.{run_ends, steps_ends, steps_end}
 use Rattle.recovery.specs.BaseMoves.{base_sound, base_swaps, length_base}
 
 -- for every sound build

@@ -1,4 +1,5 @@
 -- Carrying out a list whose writes meet erased units: nothing but the allowance stops it, and refusal 8 never comes.
+-- ---- one operation
 use Rattle.std.specs.Prelude.{◌≡◌, List, [], ◌∷◌, Bool, true, false, length, ltb}
 use Rattle.std.proofs.Common.{sym, ◌∙◌, ne_eqb}
 use Rattle.std.proofs.Math.Path.{ap}
@@ -17,10 +18,9 @@ use Rattle.flash.specs.AreaLaws.{with_own}
 use Rattle.flash.specs.OperationLaws.{halt, steps_stopped}
 use Rattle.plan.specs.Decision.{in_force}
 use Rattle.recovery.specs.Statement.{Sound, carried}
-use Rattle.recovery.specs.Fresh.{Fresh, end, erasing, writing, copying}
-use Rattle.recovery.specs.Unerased.{never_unerased}
-
--- ---- one operation
+use Rattle.recovery.proofs.Fresh.{end, erasing, writing, copying}
+use Rattle.recovery.proofs.Fresh.{Fresh}
+use Rattle.recovery.proofs.Unerased.{never_unerased}
 
 module _ (g : Build) (f : Flash) where
   -- with nothing left of the allowance it is not begun

@@ -18,7 +18,7 @@ use Rattle.recovery.specs.All.{All, none, one, all_drop}
 use Rattle.recovery.specs.Statement.{Sound, Proper, sector_of}
 use Rattle.recovery.specs.Validity.{of_valid}
 use Rattle.recovery.specs.Named.{During, failed, Unnamed, targets, places, named, Cleared}
-use Rattle.recovery.specs.Changes.{in_force_only}
+use Rattle.recovery.proofs.Changes.{in_force_only}
 
 -- the flash after any failure among the operations
 pub after_a_failure : {g : Build} {ops : List Op} {f f' : Flash} → Cut g ops f f' → During g ops f f'

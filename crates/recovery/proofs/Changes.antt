@@ -25,7 +25,7 @@ use Rattle.recovery.specs.Validity.{of_valid}
 use Rattle.recovery.specs.Hiding.{wipe_trailer, hidden_mark, hidden_ok, hidden_magic, hidden_begin, hidden_progress, hidden_move}
 use Rattle.recovery.specs.Settling.{three_marks}
 use Rattle.recovery.specs.Sectors.{sector_unwiped}
-use Rattle.recovery.specs.Unerased.{resume_means}
+use Rattle.recovery.proofs.Unerased.{resume_means}
 
 module _ {g : Build} {A : Type 0} {W : Flash → A} where
   hidden_some : {ops : List Op} → All (Hidden g W) ops → (b : ℕ) (f : Flash) → W (run g b ops f) ≡ W f

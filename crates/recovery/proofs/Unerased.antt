@@ -1,4 +1,5 @@
 -- No write of a power-up meets a unit that is not erased, from any areas whatever: the lists by their course.
+-- ---- what a decision to resume rests on
 use Rattle.std.proofs.Math.Path.{◌≡◌, refl, subst}
 use Rattle.std.specs.Prelude.{List, [], ◌∷◌, ◌++◌, Bool, ◌&&◌, not, take, drop, eqb, ltb}
 use Rattle.std.proofs.Math.Bool.{true, false}
@@ -24,9 +25,8 @@ use Rattle.recovery.specs.Places.{Geo, Sized}
 use Rattle.recovery.specs.Reading.{unset_blank}
 use Rattle.recovery.specs.Statement.{Sound}
 use Rattle.recovery.specs.Validity.{of_valid}
-use Rattle.recovery.specs.Fresh.{Fresh, end, erasing, fresh_append, fresh_ok, fresh_data, fresh_rest, fresh_exchange}
-
--- ---- what a decision to resume rests on
+use Rattle.recovery.proofs.Fresh.{end, erasing, fresh_rest, fresh_exchange}
+use Rattle.recovery.proofs.Fresh.{Fresh, fresh_append, fresh_ok, fresh_data}
 
 pub record Resumable (g : Build) (t : List ℕ) (c : ℕ) : Type 0 where
   pub low : 3 ≤ c

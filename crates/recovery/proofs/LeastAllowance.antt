@@ -16,8 +16,8 @@ use Rattle.recovery.specs.All.{All, all_map}
 use Rattle.recovery.specs.Places.{per}
 use Rattle.recovery.specs.Statement.{Failures, FinishedBy, AllStopped, Due, Sound}
 use Rattle.recovery.specs.Validity.{Valid, of_valid}
-use Rattle.recovery.specs.Follows.{follows_on, follows_never}
-use Rattle.recovery.specs.NeverLost.{quiet}
+use Rattle.recovery.proofs.Follows.{follows_on, follows_never}
+use Rattle.recovery.proofs.NeverLost.{quiet}
 use Rattle.recovery.specs.BaseMoves.{base_sound}
 
 -- for every sound build; f₀ is where the exchange was due, f what any failures since have left

@@ -14,7 +14,7 @@ use Rattle.recovery.specs.Places.{Geo, Sized, done_unit, mark_unit, clear_whole,
 use Rattle.recovery.specs.Hiding.{wipe_trailer, hidden_begin, hidden_move, move_run}
 use Rattle.recovery.specs.Begin.{sized_cut, cut_begin, begin_run}
 use Rattle.recovery.specs.Settling.{wipe_both, line5, settling, settle_run, hidden_settling}
-use Rattle.recovery.specs.Chunks.{Chunk, all_ops}
+use Rattle.recovery.proofs.Chunks.{Chunk, all_ops}
 
 -- lines 1 and 2: cut, they leave anything in scratch's trailer sector but a good magic
 pub record BeginLike (g : Build) (f clean : Flash) : Type 0 where

@@ -1,5 +1,6 @@
 -- The check accepts exactly the images, and gives each cause exactly when it is due: of the answers, one and only one is due,
 -- and it is given.
+-- ---- the header's fields are those of the bytes that begin with it
 use Rattle.std.specs.Prelude.{◌≡◌, Bool, true, false, ℕ, ◌+◌, ◌≤◌}
 use Rattle.std.proofs.Math.Path.{refl, sym, ap}
 use Rattle.std.proofs.Common.{◌∙◌, ⊎_elim, arith, length-append, length-drop, drop_at, take_at}
@@ -28,8 +29,6 @@ use Rattle.causes.specs.declared.Layout.{Layout}
 use Rattle.causes.specs.declared.Layout.TheVariants.{Wrong, Sound}
 use Rattle.causes.specs.declared.Verdict.{Verdict}
 use Rattle.causes.specs.declared.Verdict.TheVariants.{Accepted, Rejected}
-
--- ---- the header's fields are those of the bytes that begin with it
 
 field_before : (ys zs : List ℕ) (at size : ℕ) → at + size ≤ length ys → field (ys ++ zs) at size ≡ field ys at size
 unfolding field part

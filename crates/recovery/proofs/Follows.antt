@@ -1,4 +1,5 @@
 -- The decision follows the chunks: after any failures, the list in force is what is left of the exchange.
+-- ---- what holds on the way
 use Rattle.std.proofs.Math.Path.{◌≡◌, refl, sym, ap, subst}
 use Rattle.std.proofs.Common.{ap₂, ◌∙◌, arith, drop-drop, take-add}
 use mathlib.Core.List.{List, [], ◌∷◌, ◌++◌}
@@ -27,12 +28,12 @@ use Rattle.recovery.specs.Moving.{under_wiped, under_move, resumes}
 use Rattle.recovery.specs.Sectors.{moved, moved_append, moved_same, sector_same, sector_both, sector_unwiped}
 use Rattle.recovery.specs.MoveRun.{sector_step, sector_settled}
 use Rattle.recovery.specs.Validity.{valid_same}
-use Rattle.recovery.specs.Chunks.{Chunk, all_ops, Good, over, first, taken_up}
-use Rattle.recovery.specs.Starts.{Within, nothing, chunk, two, HasLong, this, another, LongToLast, last, earlier, finishes_after}
-use Rattle.recovery.specs.Starts.{never_finishes_after}
-use Rattle.recovery.specs.Stages.{BeginLike, begin_chunk, settle_chunk, move_chunk, done_chunk, data_chunks, all_data}
-
--- ---- what holds on the way
+use Rattle.recovery.proofs.Chunks.{over, first, taken_up}
+use Rattle.recovery.proofs.Chunks.{Chunk, all_ops, Good}
+use Rattle.recovery.proofs.Starts.{nothing, chunk, two, this, another, last, earlier}
+use Rattle.recovery.proofs.Starts.{Within, HasLong, LongToLast, finishes_after}
+use Rattle.recovery.proofs.Starts.{never_finishes_after}
+use Rattle.recovery.proofs.Stages.{BeginLike, begin_chunk, settle_chunk, move_chunk, done_chunk, data_chunks, all_data}
 
 -- the target of the first of the moves ms is not sector k of area b
 abbrev pub Spared : List Move → Area → Sector → Type 0

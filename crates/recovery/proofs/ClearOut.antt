@@ -21,7 +21,7 @@ use Rattle.recovery.specs.All.{All, none, one, all_append}
 use Rattle.recovery.specs.Windows.{Hidden}
 use Rattle.recovery.specs.Places.{Geo, unit_back, ok_unit, length_mark, mark_whole}
 use Rattle.recovery.specs.Named.{During, Cleared}
-use Rattle.recovery.specs.Changes.{unchanged}
+use Rattle.recovery.proofs.Changes.{unchanged}
 
 module _ {g : Build} (geo : Geo g) where
   -- an erase in slot 1 shows in no other area

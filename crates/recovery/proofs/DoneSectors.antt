@@ -12,7 +12,7 @@ use Rattle.plan.specs.Decision.{decide, in_force}
 use Rattle.recovery.specs.All.{All, none, one, all_drop}
 use Rattle.recovery.specs.Statement.{sector_of, same_sector}
 use Rattle.recovery.specs.Named.{During, Unnamed, targets, named}
-use Rattle.recovery.specs.ChangesTell.{as_before}
+use Rattle.recovery.proofs.ChangesTell.{as_before}
 use Rattle.recovery.specs.BaseMoves.{base_sound}
 
 -- moves to other sectors

@@ -1,0 +1,17 @@
+pub mod Fresh
+pub mod Unerased
+pub mod Bridge
+pub mod Changes
+pub mod ChangesTell
+pub mod DoneSectors
+pub mod Chunks
+pub mod Starts
+pub mod Stages
+pub mod Follows
+pub mod NeverLost
+pub mod Demand3
+pub mod LeastAllowance
+pub mod ClearOut
+pub mod FailuresAllow
+pub mod HarmWitness
+pub mod NamedWorked
