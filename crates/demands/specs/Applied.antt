@@ -4,7 +4,6 @@ use Rattle.std.proofs.Common.{ap, ◌∙◌, arith, take_at}
 use Rattle.spans.specs.Bytes.{part, put, blank, same}
 use Rattle.spans.specs.Choice.{every}
 use Rattle.fields.specs.Fields.{little, field}
-use Rattle.flash.specs.declared.Geometry.{Geometry}
 use Rattle.flash.specs.Geometry.{sector_no}
 use Rattle.flash.specs.Build.{Area, slot0, Flash, area, asked, fits, valid}
 use Rattle.flash.specs.Base.{base, build}

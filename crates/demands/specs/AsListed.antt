@@ -14,7 +14,7 @@ use Rattle.plan.specs.Decision.{decide, list_of, ok_unset, in_force}
 use Rattle.recovery.specs.Statement.{Sound}
 use Rattle.recovery.specs.Validity.{of_valid}
 use Rattle.recovery.specs.BaseMoves.{base_sound}
-use Rattle.recovery.specs.Bridge as bridge
+use Rattle.recovery.proofs.Bridge as bridge
 use Rattle.answers.specs.declared.Refusal.{Refusal}
 use Rattle.answers.specs.declared.Outcome.{Outcome}
 use Rattle.loader.specs.PowerUp.{boot_of, ended, carried, answered, refused, is_damage, on_course, full_start}

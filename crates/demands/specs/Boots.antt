@@ -17,7 +17,7 @@ use Rattle.plan.specs.Decision.{decide, in_force}
 use Rattle.plan.specs.Lengths.{one_if}
 use Rattle.recovery.specs.Statement.{Due, Failures, Swapped, sector_of}
 use Rattle.recovery.proofs.NeverLost.{outcome_of}
-use Rattle.recovery.specs.Demand3 as recovery
+use Rattle.recovery.proofs.Demand3 as recovery
 use Rattle.answers.specs.declared.Answer.{Answer}
 use Rattle.answers.specs.declared.Outcome.{Outcome}
 use Rattle.loader.specs.PowerUp.{Result, started, data_of, boot_of, ended, answered, is_damage}

@@ -15,7 +15,7 @@ use Rattle.plan.specs.declared.Course.TheVariants.{Damage, FromLineThree, Resume
 use Rattle.plan.specs.Decision.{decide, list_of, ok_unset, in_force}
 use Rattle.plan.specs.Lengths.{one_if}
 use Rattle.recovery.specs.Statement.{Failures, Due, Swapped}
-use Rattle.recovery.specs.Demand3 as recovery
+use Rattle.recovery.proofs.Demand3 as recovery
 use Rattle.answers.specs.declared.Answer.{Answer}
 use Rattle.answers.specs.declared.Refusal.{Refusal}
 use Rattle.loader.specs.PowerUp.{Result, carried, answered, refused, on_course, full_start}

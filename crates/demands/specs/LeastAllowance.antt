@@ -22,7 +22,7 @@ use Rattle.recovery.specs.Statement.{Failures, again, FinishedBy, at_last, once_
 use Rattle.recovery.proofs.NeverLost.{outcome_of}
 use Rattle.recovery.specs.BaseMoves.{base_swaps}
 use Rattle.recovery.specs.Validity.{of_valid}
-use Rattle.recovery.specs.LeastAllowance as recovery
+use Rattle.recovery.proofs.LeastAllowance as recovery
 use Rattle.answers.specs.declared.Outcome.{Outcome}
 use Rattle.loader.specs.PowerUp.{Result, started, data_of, boot_of, full_start}
 use Rattle.demands.specs.Statement.{as_listed, Starts, the_last, stopped, AllStop, no_start, stops_too}
