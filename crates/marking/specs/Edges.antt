@@ -2,7 +2,7 @@
 use Rattle.std.specs.Prelude.{refl, List, [], ◌∷◌, ◌++◌, true, false, ℕ, take}
 use Rattle.spans.specs.Bytes.{part, put, blank, same}
 use Rattle.spans.specs.Choice.{every}
-use Rattle.spans.specs.Table.{Row, row, Holds, no_more, and, holds_append}
+use Rattle.spans.specs.Table.{Row, row, Holds, no_more, and}
 use Rattle.flash.specs.declared.Geometry.{Geometry}
 use Rattle.flash.specs.Build.{Flash, asked, fits, valid}
 use Rattle.flash.specs.Base.{three_moves, all_moves, base}
@@ -65,7 +65,7 @@ half_marked : List ℕ
 half_marked = area (1 ∷ []) [] [] magic_bytes
 
 -- what is written, and its count
-done : List Row
+pub done : List Row
 done =
     -- "Marking slot 1 (test or permanent) writes image ok 01 if permanent, then magic." Copy done of slot 1 has no part in it.
     succeeds test (flash_of clean clean clean) 16 (flash_of clean good clean)
@@ -75,7 +75,7 @@ done =
     ∷ succeeds confirming (flash_of trial clean clean) 1 (flash_of confirmed clean clean)
     ∷ succeeds confirming (flash_of trial good clean) 1 (flash_of confirmed good clean) ∷ []
 
-done_hold : Holds done
+pub done_hold : Holds done
 unfolding done succeeds call says test permanent area clean good trial confirmed marking confirming unless_refused unless_under_way
     mark_unless_marked unmarked confirm_if_needed confirmable wrote_all ending_of refused_mark marked_numbers ending_refusal refusal_number valid fits
     asked every asks step_a step_b continue state_c written legal has_value is_unset is_no_magic is_good mark_of mark_bytes magic_of trailer magic_bytes
@@ -83,7 +83,7 @@ unfolding done succeeds call says test permanent area clean good trial confirmed
 done_hold = and refl (and refl (and refl (and refl (and refl no_more))))
 
 -- "Marking: 1, 2, 6, 5. Confirming: 1, 2, 6, 7."
-refused : List Row
+pub refused : List Row
 refused =
     -- 5: "image ok or magic of slot 1 not Unset"
     refuses test (flash_of clean good clean) 5
@@ -109,7 +109,7 @@ refused =
     ∷ row (call confirming 3 (flash_of clean clean damaged)) (says 1 0 (flash_of clean clean damaged))
     ∷ refuses test (flash_of clean (blank 1023) clean) 1 ∷ refuses confirming (flash_of trial clean (blank 1025)) 1 ∷ []
 
-refused_hold : Holds refused
+pub refused_hold : Holds refused
 unfolding refused refuses call says test permanent area clean good trial confirmed moving damaged half_marked marking confirming
     unless_refused unless_under_way mark_unless_marked unmarked confirm_if_needed confirmable wrote_all ending_of refused_mark marked_numbers
     ending_refusal refusal_number valid fits asked every asks step_a step_b continue state_c written legal has_value is_unset is_no_magic is_good mark_of
@@ -119,9 +119,5 @@ refused_hold =
     (and refl (and refl (and refl (and refl (and refl (and refl (and refl (and refl (and refl (and refl (and refl (and refl
     no_more)))))))))))))))))))))))
 
-pub edges : List Row
+unfoldable pub edges : List Row
 edges = done ++ refused
-
-pub edges_hold : Holds edges
-unfolding edges
-edges_hold = holds_append done_hold refused_hold

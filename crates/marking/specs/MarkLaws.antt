@@ -1,9 +1,8 @@
 -- Laws for the code of marking and confirming.
-use Rattle.std.specs.Prelude.{◌≡◌, refl, Bool, true, false, ℕ, ◌+◌, ◌-◌, ◌≤◌, length}
+use Rattle.std.specs.Prelude.{◌≡◌, refl, Bool, true, ℕ, ◌+◌, ◌-◌, ◌≤◌, length}
 use Rattle.std.proofs.Common.{sym, ◌∙◌, arith, length-append}
 use Rattle.std.proofs.Math.Path.{ap}
-use mathlib.Core.List.{List, [], ◌++◌}
-use Rattle.spans.specs.Choice.{pick}
+use mathlib.Core.List.{List, ◌++◌}
 use Rattle.flash.specs.declared.Geometry.{Geometry}
 use Rattle.flash.specs.declared.Run.{Run}
 use Rattle.flash.specs.Build.{slot0, slot1, Flash, trailer_sector}
@@ -12,17 +11,15 @@ use Rattle.flash.specs.Operations.{Op, State, local, going, back, start, steps}
 use Rattle.flash.specs.OperationLaws.{steps_left}
 use Rattle.plan.specs.Lists.{ok_ops, magic_ops}
 use Rattle.plan.specs.Lengths.{one_if, length_ok, length_magic}
-use Rattle.trailer.specs.Trailer.{trailer, magic_units}
+use Rattle.trailer.specs.Trailer.{magic_units}
 use Rattle.plan.specs.declared.Course.{Course}
 use Rattle.plan.specs.Asked.{flash_of}
 use Rattle.moves.specs.Areas.{state}
 use Rattle.writes.specs.InArea.{ok_in, magic_in, steps_ok, steps_marked}
 use Rattle.answers.specs.declared.Refusal.{Refusal}
-use Rattle.answers.specs.declared.Ending.{Ending}
 use Rattle.answers.specs.declared.Marked.{Marked}
 use Rattle.marking.specs.declared.taken.Standing.{Standing}
-use Rattle.marking.specs.Marking.{MarkResult, mark_result, refused_mark, ending_of, wrote_all, unless_under_way, unmarked, mark_unless_marked, confirmable, confirm_if_needed}
-use Rattle.marking.specs.MarkResults.{refusing_mark}
+use Rattle.marking.specs.Marking.{MarkResult, mark_result, refused_mark, ending_of, wrote_all, unless_under_way}
 use Rattle.marking.specs.Standing.{standing_of, by_standing, standing_says}
 
 pub length_marking : (g : Geometry) (p : Bool) → length (ok_ops (build g) slot1 p ++ magic_ops (build g) slot1) ≡ one_if p + (magic_units g).0
@@ -50,47 +47,6 @@ module _ (g : Geometry) (x0 x1 x2 : List ℕ) (b : ℕ) where
 -- and so no more is left than there was
 pub left_of : (g : Geometry) (ops : List Op) (s : State) (b : ℕ) (f : Flash) → s ≡ steps (build g) ops (start b f) → s.run.left ≤ b
 left_of g ops s b f e = omega (arith, ap (λ (x : State). x.run.left) e, steps_left (build g) ops (start b f))
-
--- ---- where no exchange is under way
-
-module _ (g : Geometry) (x0 x1 x2 : List ℕ) (a : Marked) where
-  pub marks_written : (p : Bool) (all : ℕ) (x1' : List ℕ) (r : Run) → all ≡ length (ok_ops (build g) slot1 p ++ magic_ops (build g) slot1)
-      → unmarked g (flash_of [] x1 []) ≡ true
-      → local x1' r ≡ magic_in g (trailer_sector (build g) slot1) (ok_in g (trailer_sector (build g) slot1) p (local x1 (going all)))
-      → (a.ending ≡ ending_of r.end) × (a.count ≡ all - r.left) → mark_result a (flash_of x0 x1' x2) ≡ mark_unless_marked p g
-      (flash_of x0 x1 x2)
-  unfolding mark_unless_marked unmarked trailer
-  marks_written p all x1' r n u e h =
-      let ops : List Op = ok_ops (build g) slot1 p ++ magic_ops (build g) slot1 in
-      let f : Flash = flash_of x0 x1 x2 in
-      wrote g a ops f (state x0 x1' x2 r) (marked_state g x0 x1 x2 all p x1' r e ∙ ap (λ (b : ℕ). steps (build g) ops (start b f)) n)
-      (h.0, h.1 ∙ ap (λ (b : ℕ). b - r.left) n)
-      ∙ ap (λ (b : Bool). pick b (wrote_all g ops f) (refused_mark Refusal.Marks f)) (sym u)
-
-  pub marks_refused : (p : Bool) → unmarked g (flash_of [] x1 []) ≡ false → (a.ending ≡ Ending.Refused Refusal.Marks) × (a.count ≡ 0)
-      → mark_result a (flash_of x0 x1 x2) ≡ mark_unless_marked p g (flash_of x0 x1 x2)
-  unfolding mark_unless_marked unmarked trailer
-  marks_refused p u h =
-      let f : Flash = flash_of x0 x1 x2 in
-      refusing_mark a Refusal.Marks f h
-      ∙ ap (λ (b : Bool). pick b (wrote_all g (ok_ops (build g) slot1 p ++ magic_ops (build g) slot1) f) (refused_mark Refusal.Marks f)) (sym u)
-
-  pub confirm_written : (x0' : List ℕ) (r : Run) → confirmable g (flash_of x0 [] []) ≡ true
-      → local x0' r ≡ ok_in g (trailer_sector (build g) slot0) true (local x0 (going 1))
-      → (a.ending ≡ ending_of r.end) × (a.count ≡ 1 - r.left) → mark_result a (flash_of x0' x1 x2) ≡ confirm_if_needed g (flash_of x0 x1 x2)
-  unfolding confirm_if_needed confirmable trailer ok_ops
-  confirm_written x0' r u e h =
-      let f : Flash = flash_of x0 x1 x2 in
-      wrote g a (ok_ops (build g) slot0 true) f (state x0' x1 x2 r) (confirmed_state g x0 x1 x2 1 x0' r e) h
-      ∙ ap (λ (b : Bool). pick b (wrote_all g (ok_ops (build g) slot0 true) f) (refused_mark Refusal.Needs f)) (sym u)
-
-  pub confirm_refused : confirmable g (flash_of x0 [] []) ≡ false → (a.ending ≡ Ending.Refused Refusal.Needs) × (a.count ≡ 0)
-      → mark_result a (flash_of x0 x1 x2) ≡ confirm_if_needed g (flash_of x0 x1 x2)
-  unfolding confirm_if_needed confirmable trailer
-  confirm_refused u h =
-      let f : Flash = flash_of x0 x1 x2 in
-      refusing_mark a Refusal.Needs f h
-      ∙ ap (λ (b : Bool). pick b (wrote_all g (ok_ops (build g) slot0 true) f) (refused_mark Refusal.Needs f)) (sym u)
 
 -- ---- by how things stand
 

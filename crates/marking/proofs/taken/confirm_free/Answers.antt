@@ -7,7 +7,8 @@ use Rattle.plan.specs.Lists.{ok_ops}
 use Rattle.plan.specs.Asked.{flash_of}
 use Rattle.moves.specs.Areas.{state}
 use Rattle.writes.specs.InArea.{ok_in}
-use Rattle.marking.specs.MarkLaws.{left_of, confirmed_state, confirm_written, confirm_refused}
+use Rattle.marking.specs.MarkLaws.{left_of, confirmed_state}
+use Rattle.marking.proofs.MarkLaws.{confirm_written, confirm_refused}
 use Rattle.marking.proofs.taken.confirm_free.Goals as goal
 
 pub write_ok-run-requires : goal.write_ok-run-requires

@@ -4,7 +4,8 @@ use Rattle.flash.specs.Base.{build}
 use Rattle.plan.specs.Lists.{ok_ops, magic_ops}
 use Rattle.plan.specs.Asked.{flash_of}
 use Rattle.moves.specs.Areas.{state}
-use Rattle.marking.specs.MarkLaws.{left_of, marked_state, marks_written, marks_refused}
+use Rattle.marking.specs.MarkLaws.{left_of, marked_state}
+use Rattle.marking.proofs.MarkLaws.{marks_written, marks_refused}
 use Rattle.marking.proofs.taken.mark_free.Goals as goal
 
 pub written-requires : goal.written-requires
