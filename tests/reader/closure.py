@@ -68,7 +68,7 @@ class Documents:
         """The paths that are named anywhere in the document, and lead nowhere."""
         for word in sorted(set(re.findall(r"`([a-z][\w./-]*)`", self.text, re.I))):
             if "/" in word or word.endswith((".antt", ".rt")):
-                if not any(path for top in ("", "crates/", "crates/*/", "crates/*/specs/") for path in self.root.glob(top + word)):
+                if not any(path for top in ("", "crates/", "crates/*/", "crates/*/specs/", "crates/*/proofs/") for path in self.root.glob(top + word)):
                     yield f"`{word}`: docs/ARCHITECTURE.md names it, and there is no such file"
 
 
