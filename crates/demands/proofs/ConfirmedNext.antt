@@ -1,4 +1,5 @@
 -- After confirming, the next power-up decides as before, but that a revert is none: it reads in slot 0's trailer what confirming wrote there.
+-- ---- after confirming: what was a revert is none, and all else is as before
 use Rattle.std.specs.Prelude.{◌≡◌, List, Bool, ◌&&◌, ℕ, length, take}
 use Rattle.std.proofs.Math.Path.{refl}
 use Rattle.std.proofs.Common.{sym, ap, ◌∙◌, arith}
@@ -25,12 +26,10 @@ use Rattle.answers.specs.declared.Marked.{Marked}
 use Rattle.marking.specs.Marking.{confirmable, confirming}
 use Rattle.demands.specs.Promise.{Marks}
 use Rattle.demands.specs.MarkStatement.{Allowed, unreverted}
-use Rattle.demands.specs.MarkLists.{run_ok}
-use Rattle.demands.specs.Marking.{whole_areas, confirming_needs, confirming_ends}
-use Rattle.demands.specs.Allowed.{confirming_allowed}
-use Rattle.demands.specs.MarkedNext.{free_scratch}
-
--- ---- after confirming: what was a revert is none, and all else is as before
+use Rattle.demands.proofs.MarkLists.{run_ok}
+use Rattle.demands.proofs.Marking.{whole_areas, confirming_needs, confirming_ends}
+use Rattle.demands.proofs.Allowed.{confirming_allowed}
+use Rattle.demands.proofs.MarkedNext.{free_scratch}
 
 -- copy done 01: the marks are not read
 done_not_b : (g : Build) (t0 : List ℕ) → has_value 1 (mark_of g t0 (copy_done_at g)) ≡ true

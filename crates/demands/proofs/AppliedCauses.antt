@@ -21,7 +21,7 @@ use Rattle.answers.specs.Numbers.{refusal_number}
 use Rattle.loader.specs.PowerUp.{judged_start, started, data_of, boot_of, ended, carried, answered, refused, on_course, full_start}
 use Rattle.demands.specs.Promise.{met}
 use Rattle.demands.specs.Statement.{MeetsLow, MeetsHigh, ToD}
-use Rattle.demands.specs.Causes.{refusal_3, refusal_4, refusal_3_due, refusal_4_due}
+use Rattle.demands.proofs.Causes.{refusal_3, refusal_4, refusal_3_due, refusal_4_due}
 use Rattle.demands.specs.Instances.{small, booted}
 
 -- a start that is refused by another number than 1 or 2 came to D

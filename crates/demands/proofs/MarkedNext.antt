@@ -1,4 +1,5 @@
 -- After marking, the next power-up decides for test or permanent: it reads in slot 1's trailer what marking wrote there.
+-- ---- where no exchange is under way, C decides, whatever slot 1 says
 use Rattle.std.specs.Prelude.{◌≡◌, refl, List, Bool, true, false, ◌&&◌, not, ℕ, ◌+◌, ◌*◌, length, take, eqb, leb}
 use Rattle.std.proofs.Common.{sym, ap, ap₂, ◌∙◌, arith}
 use Rattle.spans.specs.Bytes.{put}
@@ -32,11 +33,9 @@ use Rattle.marking.specs.Marking.{unmarked, marking}
 use Rattle.marking.specs.Standing.{standing_of}
 use Rattle.demands.specs.Promise.{Marks}
 use Rattle.demands.specs.MarkStatement.{ok_put, magic_put, Allowed, marked_for}
-use Rattle.demands.specs.MarkLists.{run_marking}
-use Rattle.demands.specs.Marking.{whole_areas, marking_ends}
-use Rattle.demands.specs.Allowed.{marking_allowed}
-
--- ---- where no exchange is under way, C decides, whatever slot 1 says
+use Rattle.demands.proofs.MarkLists.{run_marking}
+use Rattle.demands.proofs.Marking.{whole_areas, marking_ends}
+use Rattle.demands.proofs.Allowed.{marking_allowed}
 
 not_free_a : (g : Build) (t2 : List ℕ) → standing_of (step_a g t2) ≡ Standing.Free → ⊥
 unfolding standing_of

@@ -22,9 +22,9 @@ use Rattle.answers.specs.declared.Answer.{Answer}
 use Rattle.answers.specs.declared.Outcome.{Outcome}
 use Rattle.loader.specs.PowerUp.{Result, started, data_of, boot_of, ended, answered, is_damage}
 use Rattle.demands.specs.Promise.{Start}
-use Rattle.demands.specs.AsListed.{sound, by_state}
-use Rattle.demands.specs.Causes.{at_d, boots}
-use Rattle.demands.specs.Demand2.{exchange_of_image}
+use Rattle.demands.proofs.AsListed.{sound, by_state}
+use Rattle.demands.proofs.Causes.{at_d, boots}
+use Rattle.demands.proofs.Demand2.{exchange_of_image}
 
 -- slot 0's data bytes, once the sectors have changed places, are what slot 1's were
 pub swapped_data : (g : Geometry) (f f' : Flash) → Swapped (build g) f f' → data_of g f'.in0 ≡ data_of g f.in1

@@ -24,9 +24,9 @@ use Rattle.loader.specs.PowerUp.{Result, refused, is_damage, full_start}
 use Rattle.loader.specs.Results.{damaged}
 use Rattle.demands.specs.Promise.{Start}
 use Rattle.demands.specs.Statement.{as_listed}
-use Rattle.demands.specs.AsListed.{sound, as_listed_lem}
-use Rattle.demands.specs.Demand1.{misfit_untouched}
-use Rattle.demands.specs.Demand3.{areas}
+use Rattle.demands.proofs.AsListed.{sound, as_listed_lem}
+use Rattle.demands.proofs.Demand1.{misfit_untouched}
+use Rattle.demands.proofs.Demand3.{areas}
 
 run_none : (g : Build) (b : ℕ) (f : Flash) → run g b [] f ≡ f
 unfolding run

@@ -28,7 +28,7 @@ use Rattle.marking.specs.MarkLaws.{length_marking}
 use Rattle.marking.specs.Counts.{by_refusals}
 use Rattle.demands.specs.Promise.{Marks}
 use Rattle.demands.specs.MarkStatement.{ok_put, magic_put, one_of, MarkEnds, writes, refuses}
-use Rattle.demands.specs.MarkLists.{fresh_marking, run_ok, run_marking}
+use Rattle.demands.proofs.MarkLists.{fresh_marking, run_ok, run_marking}
 
 pub whole_areas : {numbers : List ℕ} {count : ℕ} {f whole f' : Flash} {a : Marked} → MarkEnds numbers count f whole a f'
     → a.ending ≡ Ending.Written → f' ≡ whole

@@ -19,8 +19,8 @@ use Rattle.loader.specs.PowerUp.{Result, judged_start, started, data_of, boot_of
 use Rattle.loader.specs.Results.{damaged}
 use Rattle.demands.specs.Promise.{Start}
 use Rattle.demands.specs.Statement.{as_listed}
-use Rattle.demands.specs.AsListed.{as_listed_lem}
-use Rattle.demands.specs.Touched.{first_operations}
+use Rattle.demands.proofs.AsListed.{as_listed_lem}
+use Rattle.demands.proofs.Touched.{first_operations}
 
 -- slot 0, once it is looked at, is booted or refused
 not_stopped : (checked : Bool) (h : Header) (v : Verdict) → started checked h v ≡ Outcome.Stopped → ⊥

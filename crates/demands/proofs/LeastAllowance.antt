@@ -26,10 +26,10 @@ use Rattle.recovery.proofs.LeastAllowance as recovery
 use Rattle.answers.specs.declared.Outcome.{Outcome}
 use Rattle.loader.specs.PowerUp.{Result, started, data_of, boot_of, full_start}
 use Rattle.demands.specs.Statement.{as_listed, Starts, the_last, stopped, AllStop, no_start, stops_too}
-use Rattle.demands.specs.AsListed.{sound, as_listed_lem}
-use Rattle.demands.specs.Causes.{at_d, boots}
-use Rattle.demands.specs.Demand2.{exchange_of_image}
-use Rattle.demands.specs.Boots.{swapped_data, not_damage}
+use Rattle.demands.proofs.AsListed.{sound, as_listed_lem}
+use Rattle.demands.proofs.Causes.{at_d, boots}
+use Rattle.demands.proofs.Demand2.{exchange_of_image}
+use Rattle.demands.proofs.Boots.{swapped_data, not_damage}
 
 -- as an exchange that was never cut
 abbrev exchanged : Geometry → Bool → Flash → Flash

@@ -24,8 +24,8 @@ use Rattle.marking.specs.MarkLaws.{stands_free}
 use Rattle.marking.specs.Counts.{by_refusals}
 use Rattle.demands.specs.Promise.{Marks}
 use Rattle.demands.specs.MarkStatement.{MarkEnds, writes, refuses, Allowed}
-use Rattle.demands.specs.MarkLists.{run_ok, run_marking, ok_only, marks_only}
-use Rattle.demands.specs.Marking.{fresh_wrote, unmarked_fresh, marking_ends, confirmable_fresh, confirming_ends}
+use Rattle.demands.proofs.MarkLists.{run_ok, run_marking, ok_only, marks_only}
+use Rattle.demands.proofs.Marking.{fresh_wrote, unmarked_fresh, marking_ends, confirmable_fresh, confirming_ends}
 
 written_allowed : (g : Geometry) (f : Flash) (needs : Bool) (ops : List Op) (r : Refusal)
     → (unless_refused g f (pick needs (wrote_all g ops f) (refused_mark r f))).answer.ending ≡ Ending.Written → Allowed g f needs

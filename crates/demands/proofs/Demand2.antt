@@ -1,5 +1,6 @@
 -- DEMAND 2, the image: what a power-up exchanges is an image, what it clears out is none. (That the check accepts exactly images is
 -- `accepts_images` and `accepts_only_images` of crate causes, Theorem.antt; what is booted after an exchange, Boots.antt.)
+-- ---- accepted exactly when it is an image
 use Rattle.std.specs.Prelude.{◌≡◌, List, Bool, ◌&&◌, not, ℕ, ◌+◌, ◌*◌, eqb}
 use Rattle.std.proofs.Math.Path.{refl}
 use Rattle.std.proofs.Common.{sym, ap, ◌∙◌}
@@ -22,8 +23,6 @@ use Rattle.plan.specs.Decision.{step_a, step_b, state_c, continue, asks, judged,
 use Rattle.plan.specs.DecisionLaws.{test_due, permanent_due, revert_due, decide_checked}
 use Rattle.recovery.specs.Statement.{Exchange, by_test, by_permanent, by_revert}
 use Rattle.loader.specs.PowerUp.{data_of}
-
--- ---- accepted exactly when it is an image
 
 of_verdict : (v : Verdict) → is_accepted v ≡ true → v ≡ Verdict.Accepted
 unfolding is_accepted

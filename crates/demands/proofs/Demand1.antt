@@ -23,7 +23,7 @@ use Rattle.loader.specs.PowerUp.{Result, judged_start, started, data_of, boot_of
 use Rattle.loader.specs.Results.{damaged}
 use Rattle.demands.specs.Promise.{Start}
 use Rattle.demands.specs.Statement.{Ends, boots, stops, refuses, as_listed}
-use Rattle.demands.specs.AsListed.{as_listed_lem}
+use Rattle.demands.proofs.AsListed.{as_listed_lem}
 
 booted : (checked : Bool) (h : Header) (v : Verdict) → Ends (started checked h v)
 unfolding started judged_start refusal_number

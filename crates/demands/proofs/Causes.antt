@@ -31,7 +31,7 @@ use Rattle.loader.specs.PowerUp.{Result, judged_start, started, data_of, boot_of
 use Rattle.loader.specs.Results.{damaged}
 use Rattle.demands.specs.Promise.{Start}
 use Rattle.demands.specs.Statement.{as_listed, MeetsLow, MeetsHigh, ToD}
-use Rattle.demands.specs.AsListed.{as_listed_lem}
+use Rattle.demands.proofs.AsListed.{as_listed_lem}
 
 -- What D comes to, for slot 0's data bytes: "3 | slot 0, at D, would meet cause 1 or 2", "4 | full start, checking chosen: cause 3, 4 or 5 in
 -- slot 0; the cause is given"; else "the answer is its header size as an offset".
