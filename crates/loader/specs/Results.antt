@@ -31,7 +31,7 @@ pub took : (checked : Bool) (g : Geometry) (b : ℕ) (course : Course) (x0 x1 x2
     → result_of (record { done = done; found = found; count = b - r.left; outcome = outcome }) (flash_of x0 x1 x2)
     ≡ answered checked g b course (state x0 x1 x2 r)
 unfolding answered
-took checked g b course x0 x1 x2 r done found outcome d f o = rw (d, f, o, ended_slot0 checked g x0 x1 x2 r.end) refl
+took checked g b course x0 x1 x2 r told found outcome d f o = rw (d, f, o, ended_slot0 checked g x0 x1 x2 r.end) refl
 
 module _ (checked : Bool) (g : Geometry) (b : ℕ) (f : Flash) where
   pub damaged : (c : Course) → is_damage c ≡ true → on_course checked g b f c ≡ refused Refusal.Damage f
