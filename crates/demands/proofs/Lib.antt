@@ -18,3 +18,4 @@ pub mod Applied
 pub mod AppliedMarks
 pub mod Edges
 pub mod Starred
+pub mod StoppedDue

@@ -2,7 +2,7 @@
 -- before the exchange's last write is done, each failure doing the harm that document 01 allows (`Failures`). Then one power-up
 -- with an allowance for a whole exchange leaves all three areas, byte for byte, as an exchange that was never cut, and the data
 -- sectors of the two slots have changed places whole.
-use Rattle.std.proofs.Common.{sym, ◌∙◌, arith}
+use Rattle.std.proofs.Common.{arith}
 use Rattle.std.specs.Prelude.{List, Bool, ℕ, ◌+◌, ◌*◌, ◌-◌, ◌/◌, ◌≤◌, ◌<◌, length}
 use Rattle.flash.specs.Build.{Build, Flash}
 use Rattle.flash.specs.Operations.{steps, start}
@@ -11,26 +11,12 @@ use Rattle.plan.specs.declared.Course.{Course}
 use Rattle.plan.specs.Lists.{exchange}
 use Rattle.plan.specs.Decision.{in_force}
 use Rattle.recovery.specs.Cuts.{stopped_cut}
-use Rattle.recovery.specs.Statement.{Failures, never, again, Due, Swapped, AsNeverCut, Sound}
+use Rattle.recovery.specs.Statement.{Failures, again, Due, Swapped, AsNeverCut, Sound}
 use Rattle.recovery.proofs.Bridge.{in_force_steps}
 use Rattle.plan.specs.Lengths.{one_if}
 use Rattle.recovery.specs.Validity.{Valid, of_valid}
-use Rattle.recovery.proofs.NeverLost.{run_ends, steps_ends, steps_end}
+use Rattle.recovery.proofs.NeverLost.{never_lost, steps_ends}
 use Rattle.recovery.specs.BaseMoves.{base_sound, base_swaps, length_base}
-
--- for every sound build
-pub never_lost : (check : List ℕ → Bool) {g : Build} → Sound g → {f f' : Flash} {course : Course} {p : Bool}
-    → Due check g f course p → Failures g (in_force check g) f f' → (b : ℕ) → length (exchange g p) ≤ b → AsNeverCut check g p b f f'
-never_lost check sound due fs b enough =
-    let r = run_ends check sound due fs b enough in
-    let s = steps_ends check sound due fs b enough in
-    record {
-      whole = r;
-      areas = r ∙ sym (run_ends check sound due never b enough);
-      carried = s ∙ sym (steps_ends check sound due never b enough);
-      same = s ∙ sym r;
-      ended = steps_end check sound due fs b enough;
-    }
 
 -- A power-up that its allowance stops is a failure without harm: it may stand among the failures.
 pub stopped : (check : List ℕ → Bool) {g : Build} → Sound g → {f f' : Flash} → Failures g (in_force check g) f f' → (b : ℕ)

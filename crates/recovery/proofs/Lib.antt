@@ -15,3 +15,4 @@ pub mod ClearOut
 pub mod FailuresAllow
 pub mod HarmWitness
 pub mod NamedWorked
+pub mod DoneByStarts

@@ -1,5 +1,6 @@
 -- For every sound build: an exchange that is cut any number of times ends as one that was never cut.
 -- ---- an exchange that is due under C is not under way
+use Rattle.recovery.specs.Statement.{never, AsNeverCut}
 use Rattle.std.specs.Prelude.{◌≡◌, refl, List, Bool, true, false, ℕ, ◌≤◌, length, take, ltb}
 use Rattle.std.proofs.Common.{sym, ap, ◌∙◌, arith, le-ltb}
 use Rattle.spans.specs.Choice.{pick}
@@ -83,3 +84,17 @@ module _ (check : List ℕ → Bool) {g : Build} (sound : Sound g) {f₀ : Flash
         let n : ℕ = length (in_force check g f) in
         let e : ltb b n ≡ false = le-ltb b n (omega (arith, (outcome_of fs).1.short)) in
         ap (λ (s : State). s.run.end) (in_force_steps check g sound b f) ∙ ap (λ (x : Bool). pick x Stopped Going) e
+
+-- all of it, for every sound build
+pub never_lost : (check : List ℕ → Bool) {g : Build} → Sound g → {f f' : Flash} {course : Course} {p : Bool}
+    → Due check g f course p → Failures g (in_force check g) f f' → (b : ℕ) → length (exchange g p) ≤ b → AsNeverCut check g p b f f'
+never_lost check sound due fs b enough =
+    let r = run_ends check sound due fs b enough in
+    let s = steps_ends check sound due fs b enough in
+    record {
+      whole = r;
+      areas = r ∙ sym (run_ends check sound due never b enough);
+      carried = s ∙ sym (steps_ends check sound due never b enough);
+      same = s ∙ sym r;
+      ended = steps_end check sound due fs b enough;
+    }
