@@ -36,14 +36,17 @@ UNFIT = re.compile(r"has no field|has no `|not in scope|not be named")
 
 def broken(log, crate):
     """The facts that the prover refused for themselves, as (place, fact)."""
-    facts, goals = set(), set()
+    facts, goals, unfit = set(), set(), set()
     for line in log.splitlines():
         error, goal = ERROR.match(line), OPEN.match(line)
-        if error and not FOLLOWS.search(error[3]) and not UNFIT.search(error[3]):
-            place = PLACE.search(error[1])
-            if place:
-                # a function that calls itself has its proof under +NAME
-                facts.add((place[1] or place[2] and f"proofs/{place[2]}" or place[3].lstrip("+").replace("/", "::"), error[2]))
+        place = error and PLACE.search(error[1])
+        if place and not FOLLOWS.search(error[3]):
+            # a function that calls itself has its proof under +NAME
+            where = place[1] or place[2] and f"proofs/{place[2]}" or place[3].lstrip("+").replace("/", "::")
+            if UNFIT.search(error[3]):
+                unfit.add(where)
+            else:
+                facts.add((where, error[2]))
         elif goal:
             goals.add(goal[1])
         elif line.startswith(f"fn {crate}::"):
@@ -51,7 +54,8 @@ def broken(log, crate):
             place, _, said = line.removeprefix(f"fn {crate}::").partition(": ")
             tried = re.search(r"`search` did not prove ([^;]*)", said)
             goals.update(re.findall(r"`([^`]*)`", tried[1]) if tried else ())
-            facts.update((place, goal) for goal in goals)
+            # (where an answer no longer fits, a goal may be open for its new name alone)
+            facts.update((place, goal) for goal in goals if place not in unfit)
             goals = set()
     return facts
 
@@ -149,6 +153,8 @@ def self_test():
     assert len(list(faults_of("e", edit, f + note + "fn c::h: not proved\nfn c::g: not proved\n", "c"))) == 1
     assert len(list(faults_of("e", edit, follows + g, "c"))) == 1
     assert len(list(faults_of("e", edit, unfit + g, "c"))) == 1
+    renamed = "./proofs/g/Answers.antt:1:2: error: `returns-then-y`: module `c.g.Goals` has no `returns-then-y` that can be named\n"
+    assert len(list(faults_of("e", edit, f + renamed + g, "c"))) == 1
     assert len(list(faults_of("e", edit.replace("b: g: returns-then-x", "b: m::f: returns"), f, "c"))) == 1
     assert len(list(faults_of("e", edit.replace("old: 3", ""), f + g, "c"))) == 1
     assert len(list(faults_of("e", edit + "\nwrong: c: g\nold: 5\nnew: 6\n", f + g, "c"))) == 1
@@ -164,6 +170,8 @@ def main():
     listed = (line.split("#")[0] for line in (ROOT / "crates.txt").read_text().splitlines())
     crates = [line.split(":")[0].split()[0] for line in listed if ":" in line]
     chosen = sys.argv[1:] or crates
+    if not set(chosen) <= set(crates):
+        sys.exit(f"no crate in crates.txt: {' '.join(set(chosen) - set(crates))}")
     made = {it.name: it for it in rt.rtlib.crates_below(str(ROOT))}
     edits = {it: sorted((ROOT / "crates" / it / "must-fail").glob("*.edit")) for it in crates if it in chosen}
     promises = (ROOT / "docs/PROMISES.md").read_text()
@@ -178,10 +186,14 @@ def main():
             title, text = f"{crate}/{edit.stem}", edit.read_text()
             if "\nlogic=not-proved" not in log:
                 faults.append(f"{title}: the prover gave no verdict on it: {log[:300]}")
+            texts, _ = rt.read_edit(str(edit), made[crate].folder)
+            bad = [line for line in log.splitlines() if texts and rt.unread(line, texts)]
+            faults += [f"{title}: a bad edit to rt: {line[:300]}" for line in bad[:1]]
             faults += faults_of(title, text, log, crate)
             names += [name for name, _, _ in HEAD.findall(text)]
     faults += [f"{name}: docs/PROMISES.md does not name it" for name in names if f"`{name}`" not in promises]
-    functions = [(crate, function) for crate in edits if crate != "line" for function in public_functions(crate)]
+    # `line` promises nothing, and `scale_c` what `scale` does, which it calls
+    functions = [(crate, function) for crate in edits if crate not in ("line", "scale_c") for function in public_functions(crate)]
     for crate, function in functions:
         rows = re.findall(rf"^\| `(?:{crate}::)?(?:\w+::)?{function}` .*$", promises, re.M)
         tried = {name for row in rows for name in re.findall(r"`(\w+)`", row) if name in names}
