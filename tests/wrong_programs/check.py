@@ -90,7 +90,8 @@ def kit():
 def left_by_ci(crate):
     """Whether the crate's library is one that `rt ci` left, which has no stamp, made after all that it rests on."""
     files = [file for it in (crate, *crate.below()) for part in ("src", "specs", "proofs") for file in pathlib.Path(it.folder, part).rglob("*")]
-    made = pathlib.Path(crate.rlib, "format")
+    # (the folder, as the files in it may be links to what an earlier run made)
+    made = pathlib.Path(crate.rlib)
     is_new = made.exists() and made.stat().st_mtime >= max(file.stat().st_mtime for file in files)
     return is_new and not pathlib.Path(crate.folder, "out/rlib/stamp").exists()
 
