@@ -28,7 +28,7 @@ fn lines_three_to_six(
         ≡ steps (build g) (lines_three_to_six (build g) lasting)
         (state slot0.old slot1.old scratch.old run) }
 {
-    let last = flash::last_sector(g);
+    let last = g.last_sector();
     let three = operations::erase(g, slot1, last, run);
     let four = operations::erase(g, slot0, last, three);
     let five = lines::line_five(g, slot0, lasting, four);
@@ -75,7 +75,7 @@ fn clear_out(g: Geometry, slot0: &mut [u8], slot1: &mut [u8], unset: bool, run: 
     ensures { (x2 : List ℕ) → state slot0.new slot1.new x2 result
         ≡ steps (build g) (clear_out (build g) unset) (state slot0.old slot1.old x2 run) }
 {
-    let last = flash::last_sector(g);
+    let last = g.last_sector();
     let sectors = lines::erase_sectors(g, slot1, last, run);
     let ok = writes::write_ok(g, slot0, last, unset, sectors);
     operations::erase(g, slot1, last, ok)

@@ -49,14 +49,14 @@ fn lengths_taken(g: Geometry, l0: usize, l1: usize, l2: usize) -> bool
     requires { Small g }
     ensures { result ≡ every (lengths_asked g l0 l1 l2) }
 {
-    let slot = flash::slot_bytes(g);
+    let slot = g.slot_bytes();
     if l0 != slot.0 {
         return false;
     }
     if l1 != slot.0 {
         return false;
     }
-    let scratch = flash::scratch_bytes(g);
+    let scratch = g.scratch_bytes();
     l2 == scratch.0
 }
 

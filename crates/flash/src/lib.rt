@@ -7,6 +7,8 @@ ghost use Rattle.flash.specs.Build.{scratch_bytes};
 ghost use Rattle.flash.specs.Base.{build};
 ghost use Rattle.flash.specs.Small.{Small};
 
+use std::ops::Add;
+
 // The write unit's bytes, the sector's bytes, the sectors of a slot.
 #[derive(Clone, Copy)]
 pub struct Geometry {
@@ -33,7 +35,7 @@ pub struct Units(pub usize);
 pub struct Bytes(pub usize);
 
 // How carrying out a list of operations stands.
-#[derive(Clone, Copy)]
+#[derive(Clone, Copy, PartialEq, Eq)]
 pub enum End {
     // no operation was left out so far
     Going,
@@ -52,111 +54,129 @@ pub struct Run {
 
 // The named functions that turn one kind of number into another.
 
-pub fn start_of(g: Geometry, i: Sector) -> Offset
-    requires small { Small g }
-    requires i_bound { i.0 ≤ 128 }
-    ensures { result ≡ start_of g i }
-{
-    Offset(i.0 * g.sector)
-}
+impl Geometry {
+    pub fn start_of(self, i: Sector) -> Offset
+        requires small { Small self }
+        requires i_bound { i.0 ≤ 128 }
+        ensures { result ≡ start_of self i }
+    {
+        Offset(i.0 * self.sector)
+    }
 
-pub fn place_of(g: Geometry, u: Unit) -> Offset
-    requires small { Small g }
-    requires u_bound { u.0 ≤ 8388608 }
-    ensures { result ≡ place_of g u }
-{
-    Offset(u.0 * g.unit)
-}
+    pub fn place_of(self, u: Unit) -> Offset
+        requires small { Small self }
+        requires u_bound { u.0 ≤ 8388608 }
+        ensures { result ≡ place_of self u }
+    {
+        Offset(u.0 * self.unit)
+    }
 
-pub fn unit_at(g: Geometry, o: Offset) -> Unit
-    requires { Small g }
-    ensures { result ≡ unit_at g o }
-{
-    Unit(o.0 / g.unit)
-}
+    pub fn unit_at(self, o: Offset) -> Unit
+        requires { Small self }
+        ensures { result ≡ unit_at self o }
+    {
+        Unit(o.0 / self.unit)
+    }
 
-pub fn units_per_sector(g: Geometry) -> Units
-    requires { Small g }
-    ensures { result ≡ units_per_sector g }
-{
-    Units(g.sector / g.unit)
-}
+    pub fn units_per_sector(self) -> Units
+        requires { Small self }
+        ensures { result ≡ units_per_sector self }
+    {
+        Units(self.sector / self.unit)
+    }
 
-pub fn first_unit(g: Geometry, i: Sector) -> Unit
-    requires small { Small g }
-    requires i_bound { i.0 ≤ 128 }
-    ensures { result ≡ first_unit g i }
-{
-    let per = units_per_sector(g);
-    Unit(i.0 * per.0)
+    pub fn first_unit(self, i: Sector) -> Unit
+        requires small { Small self }
+        requires i_bound { i.0 ≤ 128 }
+        ensures { result ≡ first_unit self i }
+    {
+        let per = self.units_per_sector();
+        Unit(i.0 * per.0)
+    }
+
+    // How many bytes some units are, and how many units some bytes.
+    pub fn bytes_in(self, n: Units) -> Bytes
+        requires small { Small self }
+        requires n_bound { n.0 ≤ 8388608 }
+        ensures { result ≡ bytes_in self n }
+    {
+        Bytes(n.0 * self.unit)
+    }
+
+    pub fn units_in(self, b: Bytes) -> Units
+        requires { Small self }
+        ensures { result ≡ units_in self b }
+    {
+        Units(b.0 / self.unit)
+    }
+
+    // The last sector of a slot, which is its trailer sector.
+    pub fn last_sector(self) -> Sector
+        requires { Small self }
+        ensures { result ≡ last_sector self }
+    {
+        Sector(self.sectors - 1)
+    }
+
+    // The bytes of a slot, of its data sectors, and of scratch.
+    pub fn slot_bytes(self) -> Bytes
+        requires { Small self }
+        ensures { result ≡ slot_bytes self }
+    {
+        Bytes(self.sectors * self.sector)
+    }
+
+    pub fn data_bytes(self) -> Bytes
+        requires { Small self }
+        ensures { result ≡ data_bytes self }
+    {
+        Bytes((self.sectors - 1) * self.sector)
+    }
+
+    #[tactic(auto, unfolding(crate::specs::Base::base))]
+    pub fn scratch_bytes(self) -> Bytes
+        requires { Small self }
+        ensures { result ≡ scratch_bytes (build self) }
+    {
+        Bytes(2 * self.sector)
+    }
 }
 
 // The unit that comes some units after another.
-pub fn further(u: Unit, n: Units) -> Unit
-    requires { u.0 + n.0 < 18446744073709551616 }
-    ensures { result ≡ further u n }
-{
-    Unit(u.0 + n.0)
+impl Add<Units> for Unit {
+    type Output = Unit;
+
+    ghost can_add = { λ u n. u.0 + n.0 < 18446744073709551616 };
+
+    ghost add_gives = { λ u n r. r ≡ further u n };
+
+    fn add(self, n: Units) -> Unit {
+        Unit(self.0 + n.0)
+    }
 }
 
-// An offset that is counted from another, and the offset some bytes behind one.
-pub fn after(o: Offset, p: Offset) -> Offset
-    requires { o.0 + p.0 < 18446744073709551616 }
-    ensures { result ≡ after o p }
-{
-    Offset(o.0 + p.0)
+// An offset that is counted from another.
+impl Add<Offset> for Offset {
+    type Output = Offset;
+
+    ghost can_add = { λ o p. o.0 + p.0 < 18446744073709551616 };
+
+    ghost add_gives = { λ o p r. r ≡ after o p };
+
+    fn add(self, p: Offset) -> Offset {
+        Offset(self.0 + p.0)
+    }
 }
 
-pub fn beyond(o: Offset, b: Bytes) -> Offset
-    requires { o.0 + b.0 < 18446744073709551616 }
-    ensures { result ≡ beyond o b }
-{
-    Offset(o.0 + b.0)
-}
+// The offset some bytes behind one.
+impl Add<Bytes> for Offset {
+    type Output = Offset;
 
-// How many bytes some units are, and how many units some bytes.
-pub fn bytes_in(g: Geometry, n: Units) -> Bytes
-    requires small { Small g }
-    requires n_bound { n.0 ≤ 8388608 }
-    ensures { result ≡ bytes_in g n }
-{
-    Bytes(n.0 * g.unit)
-}
+    ghost can_add = { λ o b. o.0 + b.0 < 18446744073709551616 };
 
-pub fn units_in(g: Geometry, b: Bytes) -> Units
-    requires { Small g }
-    ensures { result ≡ units_in g b }
-{
-    Units(b.0 / g.unit)
-}
+    ghost add_gives = { λ o b r. r ≡ beyond o b };
 
-// The last sector of a slot, which is its trailer sector.
-pub fn last_sector(g: Geometry) -> Sector
-    requires { Small g }
-    ensures { result ≡ last_sector g }
-{
-    Sector(g.sectors - 1)
-}
-
-// The bytes of a slot, of its data sectors, and of scratch.
-pub fn slot_bytes(g: Geometry) -> Bytes
-    requires { Small g }
-    ensures { result ≡ slot_bytes g }
-{
-    Bytes(g.sectors * g.sector)
-}
-
-pub fn data_bytes(g: Geometry) -> Bytes
-    requires { Small g }
-    ensures { result ≡ data_bytes g }
-{
-    Bytes((g.sectors - 1) * g.sector)
-}
-
-#[tactic(auto, unfolding(crate::specs::Base::base))]
-pub fn scratch_bytes(g: Geometry) -> Bytes
-    requires { Small g }
-    ensures { result ≡ scratch_bytes (build g) }
-{
-    Bytes(2 * g.sector)
+    fn add(self, b: Bytes) -> Offset {
+        Offset(self.0 + b.0)
+    }
 }

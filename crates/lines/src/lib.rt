@@ -36,7 +36,7 @@ pub fn line_five(g: Geometry, slot0: &mut [u8], lasting: bool, run: Run) -> Run
     ensures { local slot0.new result ≡ line_five_in g (trailer_sector (build g) Area.slot0) lasting
         (local slot0.old run) }
 {
-    let last = flash::last_sector(g);
+    let last = g.last_sector();
     let ok = writes::write_ok(g, slot0, last, lasting, run);
     let marks = three_marks(g, slot0, ok);
     writes::write_magic(g, slot0, last, marks)
@@ -48,7 +48,7 @@ pub fn ok_and_magic(g: Geometry, slot1: &mut [u8], lasting: bool, run: Run) -> R
     ensures { local slot1.new result ≡ magic_in g (trailer_sector (build g) Area.slot1)
         (ok_in g (trailer_sector (build g) Area.slot1) lasting (local slot1.old run)) }
 {
-    let last = flash::last_sector(g);
+    let last = g.last_sector();
     let ok = writes::write_ok(g, slot1, last, lasting, run);
     writes::write_magic(g, slot1, last, ok)
 }

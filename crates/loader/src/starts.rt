@@ -29,7 +29,7 @@ fn data_of(g: Geometry, slot: &[u8]) -> &[u8]
     requires { Small g }
     ensures { result.now ≡ data_of g slot.now }
 {
-    let bytes = flash::data_bytes(g);
+    let bytes = g.data_bytes();
     let end = spans::least(bytes.0, slot.len());
     &slot[..end]
 }

@@ -96,7 +96,7 @@ fn mark_writes(g: Geometry, permanent: bool) -> u64
     requires { Small g }
     ensures { result ≡ length (ok_ops (build g) Area.slot1 permanent ++ magic_ops (build g) Area.slot1) }
 {
-    let units = flash::units_in(g, Bytes(16));
+    let units = g.units_in(Bytes(16));
     let magic = units.0 as u64;
     if permanent { 1 + magic } else { magic }
 }
@@ -151,7 +151,7 @@ fn confirm_free(g: Geometry, slot0: &mut [u8]) -> Marked
             left: 1,
             end: End::Going,
         };
-        let last = flash::last_sector(g);
+        let last = g.last_sector();
         let run = writes::write_ok(g, slot0, last, true, start);
         written(1, run)
     } else {

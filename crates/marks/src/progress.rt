@@ -15,9 +15,9 @@ pub fn mark_place(g: Geometry, k: usize) -> Offset
     requires k_bound { k < 3 * g.sectors }
     ensures { result ≡ mark_at (build g) k }
 {
-    let all = flash::bytes_in(g, Units(3 * g.sectors));
-    let place = flash::place_of(g, Unit(k));
-    flash::after(Offset(g.sector - 32 - all.0), place)
+    let all = g.bytes_in(Units(3 * g.sectors));
+    let place = g.place_of(Unit(k));
+    Offset(g.sector - 32 - all.0) + place
 }
 
 fn progress_mark(g: Geometry, t: &[u8], k: usize) -> Mark

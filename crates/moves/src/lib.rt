@@ -21,9 +21,9 @@ fn move_sector(g: Geometry, src: &[u8], from: Sector, dst: &mut [u8], to: Sector
     ensures { local dst.new result ≡ move_in g src.now from to (local dst.old run) }
 {
     let erased = operations::erase(g, dst, to, run);
-    let at = flash::place_of(g, flash::first_unit(g, from));
-    let u = flash::first_unit(g, to);
-    let units = flash::units_per_sector(g);
+    let at = g.place_of(g.first_unit(from));
+    let u = g.first_unit(to);
+    let units = g.units_per_sector();
     operations::write_units(g, src, at, dst, u, units, erased)
 }
 
@@ -33,7 +33,7 @@ fn marked_sector(g: Geometry, k: usize) -> Sector
     requires k_bound { k < 3 * g.sectors }
     ensures { result ≡ marked_sector g k }
 {
-    let last = flash::last_sector(g);
+    let last = g.last_sector();
     Sector(last.0 - k / 3)
 }
 
@@ -123,6 +123,6 @@ pub fn data_exchange(
 {
     let moved = moves_from(g, c, slot0, slot1, scratch, run);
     let at = marks::copy_done::done_place(g);
-    let last = flash::last_sector(g);
+    let last = g.last_sector();
     writes::write_mark(g, slot0, last, at, 1, moved)
 }

@@ -27,7 +27,7 @@ pub fn erase(g: Geometry, area: &mut [u8], i: Sector, run: Run) -> Run
                     end: End::Stopped,
                 };
             }
-            let at = flash::start_of(g, i);
+            let at = g.start_of(i);
             store::fill(area, at.0, g.sector);
             Run {
                 left: run.left - 1,
@@ -50,7 +50,7 @@ fn is_erased(g: Geometry, area: &[u8], u: Unit) -> bool
     requires u_bound { u.0 ≤ 8388608 }
     ensures { result ≡ erased g u area.now }
 {
-    let at = flash::place_of(g, u);
+    let at = g.place_of(u);
     compare::all_blank(area, at.0, g.unit)
 }
 
@@ -61,7 +61,7 @@ fn count_blank(g: Geometry, area: &[u8], u: Unit, n: Units) -> Units
 {
     let mut k = 0;
     while k < n.0 {
-        if is_erased(g, area, flash::further(u, Units(k))) {
+        if is_erased(g, area, u + Units(k)) {
             k += 1;
         } else {
             return Units(k);
@@ -77,8 +77,8 @@ fn blank_units(g: Geometry, area: &[u8], u: Unit, n: Units) -> Units
     requires n_bound { u.0 + n.0 ≤ 8388608 }
     ensures { (result.0 ≡ blank_run g u n.0 area.now) × (result.0 ≤ n.0) }
 {
-    let at = flash::place_of(g, u);
-    let bytes = flash::bytes_in(g, n);
+    let at = g.place_of(u);
+    let bytes = g.bytes_in(n);
     if compare::all_blank(area, at.0, bytes.0) {
         n
     } else {
@@ -138,8 +138,8 @@ fn write_blocks(
     ensures result_in_bounds { (result.0 ≤ length src.now - from.0) × ((units_in g result).0 ≤ reached.0) }
     ensures dst_after { dst.new ≡ put dst.old (place_of g to).0 (part src.now from.0 result.0) }
 {
-    let at = flash::place_of(g, to);
-    let bytes = flash::bytes_in(g, reached);
+    let at = g.place_of(to);
+    let bytes = g.bytes_in(reached);
     let blocks = store::copy_blank(src, from.0, dst, at.0, bytes.0);
     Bytes(blocks * 512)
 }
@@ -151,8 +151,8 @@ fn copy_all(g: Geometry, src: &[u8], from: Offset, dst: &mut [u8], to: Unit, uni
     ensures { dst.new ≡ put dst.old (place_of g to).0
         (part src.now from.0 (bytes_in g units).0) }
 {
-    let at = flash::place_of(g, to);
-    let bytes = flash::bytes_in(g, units);
+    let at = g.place_of(to);
+    let bytes = g.bytes_in(units);
     store::copy(src, from.0, dst, at.0, bytes.0);
 }
 
@@ -173,11 +173,11 @@ fn write_erased(
         (part src.now from.0 (bytes_in g result).0) }
 {
     let front = write_blocks(g, src, from, dst, to, reached);
-    let done = flash::units_in(g, front);
-    let next = flash::further(to, done);
+    let done = g.units_in(front);
+    let next = to + done;
     let rest = Units(reached.0 - done.0);
     let more = blank_units(g, dst, next, rest);
-    copy_all(g, src, flash::beyond(from, front), dst, next, more);
+    copy_all(g, src, from + front, dst, next, more);
     Units(done.0 + more.0)
 }
 

@@ -31,7 +31,7 @@ fn from_sector(g: Geometry, area: &[u8], i: Sector) -> &[u8]
     requires i_bound { i.0 ≤ 128 }
     ensures { result.now ≡ drop (start_of g i).0 area.now }
 {
-    let place = flash::start_of(g, i);
+    let place = g.start_of(i);
     let at = spans::least(place.0, area.len());
     &area[at..]
 }
@@ -41,7 +41,7 @@ pub fn slot_trailer(g: Geometry, slot: &[u8]) -> &[u8]
     requires { Small g }
     ensures { result.now ≡ drop (start_of g (trailer_sector (build g) slot0)).0 slot.now }
 {
-    let last = flash::last_sector(g);
+    let last = g.last_sector();
     from_sector(g, slot, last)
 }
 

@@ -18,8 +18,8 @@ fn unit_in(g: Geometry, i: Sector, at: Offset) -> Unit
     requires i_bound { (i.0 ≤ 127) × (at.0 < g.sector) }
     ensures { (result ≡ unit_at g (after (start_of g i) at)) × (result.0 + (g.sector - at.0) ≤ 8388608) }
 {
-    let start = flash::start_of(g, i);
-    flash::unit_at(g, flash::after(start, at))
+    let start = g.start_of(i);
+    g.unit_at(start + at)
 }
 
 pub fn write_mark(g: Geometry, area: &mut [u8], i: Sector, at: Offset, value: u8, run: Run) -> Run
@@ -41,7 +41,7 @@ pub fn write_progress(g: Geometry, slot0: &mut [u8], k: usize, run: Run) -> Run
 {
     let at = marks::progress::mark_place(g, k);
     let value = (1 + k % 3) as u8;
-    let last = flash::last_sector(g);
+    let last = g.last_sector();
     write_mark(g, slot0, last, at, value, run)
 }
 
@@ -67,6 +67,6 @@ pub fn write_magic(g: Geometry, area: &mut [u8], i: Sector, run: Run) -> Run
     let at = marks::magic::magic_place(g);
     let u = unit_in(g, i, at);
     let bytes = marks::magic::magic_bytes();
-    let units = flash::units_in(g, Bytes(16));
+    let units = g.units_in(Bytes(16));
     operations::write_units(g, &bytes, Offset(0), area, u, units, run)
 }

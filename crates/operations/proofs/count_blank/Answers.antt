@@ -18,7 +18,7 @@ is_erased-requires c = record {
   u_bound = omega (
     arith,
     ap (λ (u : Unit). u.0)
-        c.further.ensures,
+        c.add.ensures,
     c.requires.n_bound,
   );
 }
@@ -28,7 +28,7 @@ loop-k-preserved c =
     let given = c.args in
     let k : ℕ = c.loop-k.k in
     let e : erased given.g (further given.u (unit_count k)) given.area.now ≡ true =
-    sym (c.is_erased.ensures ∙ ap (λ (u : Unit). erased given.g u given.area.now) c.further.ensures)
+    sym (c.is_erased.ensures ∙ ap (λ (u : Unit). erased given.g u given.area.now) c.add.ensures)
     ∙ c.if-is_erased.true in (
       omega arith,
       c.loop-k.invariant.1 ∙ blank_run_next given.g given.u given.n.0 k given.area.now
@@ -40,7 +40,7 @@ returns-else-is_erased c =
     let given = c.args in
     let k : ℕ = c.loop-k.k in
     let e : erased given.g (further given.u (unit_count k)) given.area.now ≡ false =
-    sym (c.is_erased.ensures ∙ ap (λ (u : Unit). erased given.g u given.area.now) c.further.ensures)
+    sym (c.is_erased.ensures ∙ ap (λ (u : Unit). erased given.g u given.area.now) c.add.ensures)
     ∙ c.if-is_erased.false in
     sym (c.loop-k.invariant.1 ∙ blank_run_stop given.g given.u given.n.0 k given.area.now
     (omega arith) e)

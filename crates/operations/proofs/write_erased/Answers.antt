@@ -8,8 +8,8 @@ use Rattle.operations.specs.UnitLaws.{blank_run}
 use Rattle.operations.specs.FrontLaws.{both_parts}
 use Rattle.operations.proofs.write_erased.Goals as goal
 
-pub further-next-requires : goal.further-next-requires
-further-next-requires c =
+pub add-next-requires : goal.add-next-requires
+add-next-requires c =
     omega (
       arith,
       c.requires.reached_bound,
@@ -30,7 +30,7 @@ pub blank_units-more-requires : goal.blank_units-more-requires
 blank_units-more-requires c =
     let pre = c.requires in
     let done = ap (λ (n : Units). n.0) c.units_in-done.ensures in
-    let next = ap (λ (u : Unit). u.0) c.further-next.ensures in
+    let next = ap (λ (u : Unit). u.0) c.add-next.ensures in
     let front = c.write_blocks-front.ensures.result_in_bounds.1 in
     record {
       small = pre.small;
@@ -41,7 +41,7 @@ pub copy_all-requires : goal.copy_all-requires
 copy_all-requires c =
     let pre = c.requires in
     let done = ap (λ (n : Units). n.0) c.units_in-done.ensures in
-    let next = ap (λ (u : Unit). u.0) c.further-next.ensures in
+    let next = ap (λ (u : Unit). u.0) c.add-next.ensures in
     let front = c.write_blocks-front.ensures.result_in_bounds.1 in
     record {
       small = pre.small;
@@ -54,9 +54,9 @@ returns c =
     let front = c.write_blocks-front in
     let done = ap (λ (n : Units). n.0)
     c.units_in-done.ensures in
-    let next : c.further-next.result ≡ further
+    let next : c.add-next.result ≡ further
     given.to (units_in given.g front.result) =
-    c.further-next.ensures ∙ ap (further given.to)
+    c.add-next.ensures ∙ ap (further given.to)
     c.units_in-done.ensures in
     let more = c.blank_units-more in
     let counted : more.result.0 ≡ blank_run given.g (further given.to (units_in given.g front.result))
@@ -66,7 +66,7 @@ returns c =
     let copied = c.copy_all.ensures ∙ ap₂ (λ (u : Unit) (o : Offset). put front.new.dst
     (place_of given.g u).0
     (part given.src.now o.0 (bytes_in given.g more.result).0)) next
-    c.beyond.ensures in
+    c.add.ensures in
     let parts = both_parts given.g
     c.requires.small given.to given.reached given.src.now given.from.0 given.dst.now
     front.result front.ensures.result_value more.result.0 _ _ front.ensures.dst_after counted copied in
