@@ -13,8 +13,8 @@ overflow_sub-g-2 c =
     let all = ap (λ (b : Bytes). b.0) c.bytes_in-all.ensures in
     omega (arith, all, marks_fit given.g given.k pre.small (omega (arith, pre.k_bound)))
 
-pub after-requires : goal.after-requires
-after-requires c =
+pub add-requires : goal.add-requires
+add-requires c =
     let given = c.args in
     let pre = c.requires in
     let place = ap (λ (o : Offset). o.0) c.place_of-place.ensures in
@@ -25,5 +25,5 @@ unfolding base
 returns c =
     let s = c.args.g.sector in
     let all = c.bytes_in-all.ensures in
-    c.after.ensures ∙ ap₂ (λ (b : Bytes) (o : Offset). after (byte_at (s - 32 - b.0)) o) all
+    c.add.ensures ∙ ap₂ (λ (b : Bytes) (o : Offset). after (byte_at (s - 32 - b.0)) o) all
     c.place_of-place.ensures
