@@ -1,7 +1,7 @@
 -- The check accepts exactly the images, and gives each cause exactly when it is due: of the answers, one and only one is due,
 -- and it is given.
 -- ---- the header's fields are those of the bytes that begin with it
-use Rattle.std.specs.Prelude.{◌≡◌, Bool, true, false, ℕ, ◌+◌, ◌≤◌}
+use Rattle.std.specs.Prelude.{◌≡◌, Bool, true, false, ℕ, ◌+◌, ◌≤◌, Ok, Err}
 use Rattle.std.proofs.Math.Path.{refl, sym, ap}
 use Rattle.std.proofs.Common.{◌∙◌, ⊎_elim, arith, length-append, length-drop, drop_at, take_at}
 use mathlib.Core.List.{List, [], ◌∷◌, ◌++◌, append_assoc}
@@ -15,7 +15,7 @@ use Rattle.fips.specs.Fips.{sha256}
 use Rattle.fields.specs.Fields.{field}
 use Rattle.causes.specs.Header.{header_magic, records_size, header_size, body_size, covered_size, image_size, records_area}
 use Rattle.records.specs.Records.{Trailing, Split, records}
-use Rattle.causes.specs.Check.{head, structure, digest_at, check}
+use Rattle.causes.specs.Check.{Verdict, Header, Layout, head, structure, digest_at, check}
 use Rattle.causes.specs.Image.{laid, of_type, Image, GoodHeader, Fills, OneDigest, When}
 use Rattle.causes.specs.LaidLaws.{as_laid}
 use Rattle.records.specs.RecordLaws.{less}
@@ -23,12 +23,7 @@ use Rattle.causes.specs.CheckLaws.{sizes_small, sizes_above, head_short, head_ot
 use Rattle.causes.specs.StructureLaws.{Heads, heads, Comes, DigestStands, comes, cut, structure_bad}
 use Rattle.causes.specs.declared.Cause.{Cause}
 use Rattle.causes.specs.declared.Cause.TheVariants.{HeaderMagic, HeaderSizes, RecordsArea, DigestRecord, DigestDiffers}
-use Rattle.causes.specs.declared.Header.{Header}
-use Rattle.causes.specs.declared.Header.TheVariants.{Bad, Good}
-use Rattle.causes.specs.declared.Layout.{Layout}
-use Rattle.causes.specs.declared.Layout.TheVariants.{Wrong, Sound}
-use Rattle.causes.specs.declared.Verdict.{Verdict}
-use Rattle.causes.specs.declared.Verdict.TheVariants.{Accepted, Rejected}
+use Rattle.causes.specs.declared.Signed.{Signed}
 
 field_before : (ys zs : List ℕ) (at size : ℕ) → at + size ≤ length ys → field (ys ++ zs) at size ≡ field ys at size
 unfolding field part
@@ -64,9 +59,9 @@ check_of : (xs : List ℕ) (l : Layout) → structure xs ≡ l → check xs ≡ 
 unfolding check
 check_of xs l e = ap (λ (k : Layout). digest_at k xs) e
 
-check_bad : (xs : List ℕ) (c : Cause) → head xs ≡ Bad c → check xs ≡ Rejected c
+check_bad : (xs : List ℕ) (c : Cause) → head xs ≡ Err c → check xs ≡ Err c
 unfolding digest_at
-check_bad xs c e = check_of xs (Wrong c) (structure_bad xs c e)
+check_bad xs c e = check_of xs (Err c) (structure_bad xs c e)
 
 -- bytes that pass everything are an image
 module _ (xs : List ℕ) (g : GoodHeader xs) (rs : List Trailing) (f : Fills (records_area xs) rs) (d : Trailing) (o : OneDigest rs d) where
@@ -101,7 +96,7 @@ module _ (xs : List ℕ) (g : GoodHeader xs) (rs : List Trailing) (f : Fills (re
       }
 
 module _ (xs : List ℕ) where
-  bad : (c : Cause) → Heads xs (Bad c) → When xs (Rejected c)
+  bad : (c : Cause) → Heads xs (Err c) → When xs (Err c)
   bad HeaderSizes (Heads.fewer h) = When.fewer h
   bad HeaderMagic (Heads.no_magic l n) = When.no_magic l n
   bad HeaderSizes (Heads.small_header l m h) = When.small_header l m h
@@ -111,32 +106,31 @@ module _ (xs : List ℕ) where
   bad DigestDiffers w = elim w [ ]
 
   module _ (g : GoodHeader xs) where
-    digest_of : (covered at : ℕ) → covered ≡ covered_size xs → (rs : List Trailing) → Fills (records_area xs) rs →
-        (d : Trailing) → OneDigest rs d → DigestStands xs at d
-        → (t : Bool) → same (part xs at 32) (sha256 (take covered xs)) ≡ t → When xs (digest_at (Sound covered at) xs)
-    digest_of covered at c rs f d o s true e =
+    digest_of : (k : Signed) → k.covered ≡ covered_size xs → (rs : List Trailing) → Fills (records_area xs) rs →
+        (d : Trailing) → OneDigest rs d → DigestStands xs k.digest d
+        → (t : Bool) → same (part xs k.digest 32) (sha256 (take k.covered xs)) ≡ t → When xs (digest_at (Ok k) xs)
+    digest_of k c rs f d o s true e =
         let right : d.bytes ≡ sha256 (take (covered_size xs) xs) = sym s.bytes_are ∙ (same_eq _ _ e ∙ ap (λ (n : ℕ). sha256
         (take n xs)) c) in
-        rw (digest_same xs covered at e) (When.image (is_image xs g rs f d o right))
-    digest_of covered at c rs f d o s false e =
-        rw (digest_other xs covered at e)
+        rw (digest_same xs k e) (When.image (is_image xs g rs f d o right))
+    digest_of k c rs f d o s false e =
+        rw (digest_other xs k e)
         (When.differs g rs f d o
         (λ right.
-        let k : part xs at 32 ≡ sha256 (take covered xs) = s.bytes_are ∙ (right ∙ ap (λ (n : ℕ). sha256 (take n xs)) (sym c)) in
-        let t : same (part xs at 32) (sha256 (take covered xs)) ≡ true = ap (λ (l : List ℕ). same l (sha256 (take covered xs))) k
+        let made : part xs k.digest 32 ≡ sha256 (take k.covered xs) = s.bytes_are ∙ (right ∙ ap (λ (n : ℕ). sha256 (take n xs)) (sym c)) in
+        let t : same (part xs k.digest 32) (sha256 (take k.covered xs)) ≡ true = ap (λ (l : List ℕ). same l (sha256 (take k.covered xs))) made
         ∙ same_refl _ in
         let z : ◌≡◌ {A = ℕ} 0 1 = cc in
         omega arith))
 
     passed : (l : Layout) → Comes xs (records_area xs) (covered_size xs) l → When xs (digest_at l xs)
     unfolding digest_at
-    passed (Wrong RecordsArea) (Comes.not_filled n) = When.not_filled g n
-    passed (Wrong DigestRecord) (Comes.not_one rs f n) = When.not_one g rs f n
-    passed (Sound covered at) (Comes.sound rs f d o s) = digest_of covered at refl rs f d o s (same (part xs at 32) (sha256
-        (take covered xs))) refl
-    passed (Wrong HeaderMagic) w = elim w [ ]
-    passed (Wrong HeaderSizes) w = elim w [ ]
-    passed (Wrong DigestDiffers) w = elim w [ ]
+    passed (Err RecordsArea) (Comes.not_filled n) = When.not_filled g n
+    passed (Err DigestRecord) (Comes.not_one rs f n) = When.not_one g rs f n
+    passed (Ok k) (Comes.sound rs f d o s) = digest_of k refl rs f d o s (same (part xs k.digest 32) (sha256 (take k.covered xs))) refl
+    passed (Err HeaderMagic) w = elim w [ ]
+    passed (Err HeaderSizes) w = elim w [ ]
+    passed (Err DigestDiffers) w = elim w [ ]
 
   -- The check's answer is due.
   pub given : When xs (check xs)
@@ -144,54 +138,57 @@ module _ (xs : List ℕ) where
   given = by (head xs) refl (heads xs)
     where
       by : (h : Header) → head xs ≡ h → Heads xs h → When xs (check xs)
-      by (Bad c) e w = rw (check_bad xs c e) (bad c w)
-      by (Good header body size) e (Heads.good s) = passed s.good (structure xs) (comes xs s.good)
+      by (Err c) e w = rw (check_bad xs c e) (bad c w)
+      by (Ok t) e (Heads.good s) = passed s.good (structure xs) (comes xs s.good)
 
 -- ---- what is due is given
 
+-- the answer, once the digests are compared
+abbrev by_digest : Bool → Verdict
+by_digest same = pick same (Ok tt) (Err DigestDiffers)
+
 module _ (xs : List ℕ) (g : GoodHeader xs) (rs : List Trailing) (f : Fills (records_area xs) rs) where
-  given_digest : (d : Trailing) → OneDigest rs d → check xs ≡ pick (same d.bytes (sha256 (take (covered_size xs) xs))) Accepted
-      (Rejected DigestDiffers)
+  given_digest : (d : Trailing) → OneDigest rs d → check xs ≡ by_digest (same d.bytes (sha256 (take (covered_size xs) xs)))
   unfolding digest_at
   given_digest d o = by (structure xs) refl (comes xs g)
     where
       by : (l : Layout) → structure xs ≡ l → Comes xs (records_area xs) (covered_size xs) l
-          → check xs ≡ pick (same d.bytes (sha256 (take (covered_size xs) xs))) Accepted (Rejected DigestDiffers)
-      by (Wrong RecordsArea) e (Comes.not_filled n) = absurd (n rs f)
-      by (Wrong DigestRecord) e (Comes.not_one qs q n) = absurd (n d (rw (one_filling (records_area xs) qs rs q f) o))
-      by (Sound covered at) e (Comes.sound qs q c p s) =
+          → check xs ≡ by_digest (same d.bytes (sha256 (take (covered_size xs) xs)))
+      by (Err RecordsArea) e (Comes.not_filled n) = absurd (n rs f)
+      by (Err DigestRecord) e (Comes.not_one qs q n) = absurd (n d (rw (one_filling (records_area xs) qs rs q f) o))
+      by (Ok k) e (Comes.sound qs q c p s) =
           let one : of_type 1 rs ≡ c ∷ [] = rw (one_filling (records_area xs) qs rs q f) at p.only_one in
           let two = o.only_one in
           let same_digest : c ≡ d = cc in
-          let stands : part xs at 32 ≡ d.bytes = s.bytes_are ∙ ap (λ (t : Trailing). t.bytes) same_digest in
-          check_of xs (Sound covered at) e ∙ rw stands
-      by (Wrong HeaderMagic) e w = elim w [ ]
-      by (Wrong HeaderSizes) e w = elim w [ ]
-      by (Wrong DigestDiffers) e w = elim w [ ]
+          let stands : part xs k.digest 32 ≡ d.bytes = s.bytes_are ∙ ap (λ (t : Trailing). t.bytes) same_digest in
+          check_of xs (Ok k) e ∙ rw stands
+      by (Err HeaderMagic) e w = elim w [ ]
+      by (Err HeaderSizes) e w = elim w [ ]
+      by (Err DigestDiffers) e w = elim w [ ]
 
-  given_not_one : ((d : Trailing) → OneDigest rs d → ⊥) → check xs ≡ Rejected DigestRecord
+  given_not_one : ((d : Trailing) → OneDigest rs d → ⊥) → check xs ≡ Err DigestRecord
   unfolding digest_at
   given_not_one n = by (structure xs) refl (comes xs g)
     where
-      by : (l : Layout) → structure xs ≡ l → Comes xs (records_area xs) (covered_size xs) l → check xs ≡ Rejected DigestRecord
-      by (Wrong RecordsArea) e (Comes.not_filled m) = absurd (m rs f)
-      by (Wrong DigestRecord) e (Comes.not_one qs q m) = check_of xs (Wrong DigestRecord) e
-      by (Sound covered at) e (Comes.sound qs q c p s) = absurd (n c (rw (one_filling (records_area xs) qs rs q f) at p))
-      by (Wrong HeaderMagic) e w = elim w [ ]
-      by (Wrong HeaderSizes) e w = elim w [ ]
-      by (Wrong DigestDiffers) e w = elim w [ ]
+      by : (l : Layout) → structure xs ≡ l → Comes xs (records_area xs) (covered_size xs) l → check xs ≡ Err DigestRecord
+      by (Err RecordsArea) e (Comes.not_filled m) = absurd (m rs f)
+      by (Err DigestRecord) e (Comes.not_one qs q m) = check_of xs (Err DigestRecord) e
+      by (Ok k) e (Comes.sound qs q c p s) = absurd (n c (rw (one_filling (records_area xs) qs rs q f) at p))
+      by (Err HeaderMagic) e w = elim w [ ]
+      by (Err HeaderSizes) e w = elim w [ ]
+      by (Err DigestDiffers) e w = elim w [ ]
 
-given_not_filled : (xs : List ℕ) → GoodHeader xs → ((rs : List Trailing) → Fills (records_area xs) rs → ⊥) → check xs ≡ Rejected RecordsArea
+given_not_filled : (xs : List ℕ) → GoodHeader xs → ((rs : List Trailing) → Fills (records_area xs) rs → ⊥) → check xs ≡ Err RecordsArea
 unfolding digest_at
 given_not_filled xs g n = by (structure xs) refl (comes xs g)
   where
-    by : (l : Layout) → structure xs ≡ l → Comes xs (records_area xs) (covered_size xs) l → check xs ≡ Rejected RecordsArea
-    by (Wrong RecordsArea) e (Comes.not_filled m) = check_of xs (Wrong RecordsArea) e
-    by (Wrong DigestRecord) e (Comes.not_one qs q m) = absurd (n qs q)
-    by (Sound covered at) e (Comes.sound qs q c p s) = absurd (n qs q)
-    by (Wrong HeaderMagic) e w = elim w [ ]
-    by (Wrong HeaderSizes) e w = elim w [ ]
-    by (Wrong DigestDiffers) e w = elim w [ ]
+    by : (l : Layout) → structure xs ≡ l → Comes xs (records_area xs) (covered_size xs) l → check xs ≡ Err RecordsArea
+    by (Err RecordsArea) e (Comes.not_filled m) = check_of xs (Err RecordsArea) e
+    by (Err DigestRecord) e (Comes.not_one qs q m) = absurd (n qs q)
+    by (Ok k) e (Comes.sound qs q c p s) = absurd (n qs q)
+    by (Err HeaderMagic) e w = elim w [ ]
+    by (Err HeaderSizes) e w = elim w [ ]
+    by (Err DigestDiffers) e w = elim w [ ]
 
 part_between : (ys zs ws : List ℕ) (at size : ℕ) → length ys ≡ at → length zs ≡ size → part (ys ++ (zs ++ ws)) at size ≡ zs
 unfolding part
@@ -230,37 +227,37 @@ says xs i =
       covers = ap (take (header_size xs + body_size xs)) whole ∙ take_at front behind (header_size xs + body_size xs) c;
     }
 
-digest_is : (a b : List ℕ) → a ≡ b → pick (same a b) Accepted (Rejected DigestDiffers) ≡ Accepted
+digest_is : (a b : List ℕ) → a ≡ b → by_digest (same a b) ≡ Ok tt
 digest_is a b e = rw (e, same_refl b)
 
-digest_not : (a b : List ℕ) → (a ≡ b → ⊥) → (t : Bool) → same a b ≡ t → pick t Accepted (Rejected DigestDiffers) ≡ Rejected DigestDiffers
+digest_not : (a b : List ℕ) → (a ≡ b → ⊥) → (t : Bool) → same a b ≡ t → by_digest t ≡ Err DigestDiffers
 digest_not a b n true e = absurd (n (same_eq a b e))
 digest_not a b n false e = refl
 
 -- An answer that is due is the check's.
 pub only : (xs : List ℕ) (v : Verdict) → When xs v → check xs ≡ v
-only xs (Rejected HeaderSizes) (When.fewer h) = check_bad xs HeaderSizes (head_short xs h)
-only xs (Rejected HeaderMagic) (When.no_magic l n) = check_bad xs HeaderMagic (head_other xs l n)
-only xs (Rejected HeaderSizes) (When.small_header l m h) = check_bad xs HeaderSizes (head_known xs l m ∙ sizes_small xs h)
-only xs (Rejected HeaderSizes) (When.sum_above l m h) =
+only xs (Err HeaderSizes) (When.fewer h) = check_bad xs HeaderSizes (head_short xs h)
+only xs (Err HeaderMagic) (When.no_magic l n) = check_bad xs HeaderMagic (head_other xs l n)
+only xs (Err HeaderSizes) (When.small_header l m h) = check_bad xs HeaderSizes (head_known xs l m ∙ sizes_small xs h)
+only xs (Err HeaderSizes) (When.sum_above l m h) =
     check_bad xs HeaderSizes (head_known xs l m ∙ ⊎_elim (sizes_small xs) (λ k. sizes_above xs k h) (less (header_size xs) 32))
-only xs (Rejected RecordsArea) (When.not_filled g n) = given_not_filled xs g n
-only xs (Rejected DigestRecord) (When.not_one g rs f n) = given_not_one xs g rs f n
-only xs (Rejected DigestDiffers) (When.differs g rs f d o n) =
+only xs (Err RecordsArea) (When.not_filled g n) = given_not_filled xs g n
+only xs (Err DigestRecord) (When.not_one g rs f n) = given_not_one xs g rs f n
+only xs (Err DigestDiffers) (When.differs g rs f d o n) =
     given_digest xs g rs f d o ∙ digest_not d.bytes (sha256 (take (covered_size xs) xs)) n (same d.bytes (sha256 (take
     (covered_size xs) xs))) refl
-only xs Accepted (When.image i) =
+only xs (Ok tt) (When.image i) =
     let s = says xs i in
     given_digest xs s.good i.trailing s.fills i.digest (record { only_one = i.only_one; of_32_bytes = i.of_32_bytes })
     ∙ digest_is i.digest.bytes (sha256 (take (covered_size xs) xs)) (i.right ∙ ap sha256 (sym s.covers))
 
 -- ---- the check accepts exactly the images
 
-pub accepts_images : (xs : List ℕ) → Image xs → check xs ≡ Accepted
-accepts_images xs i = only xs Accepted (When.image i)
+pub accepts_images : (xs : List ℕ) → Image xs → check xs ≡ Ok tt
+accepts_images xs i = only xs (Ok tt) (When.image i)
 
-pub accepts_only_images : (xs : List ℕ) → check xs ≡ Accepted → Image xs
+pub accepts_only_images : (xs : List ℕ) → check xs ≡ Ok tt → Image xs
 accepts_only_images xs e = opened (rw e at (given xs))
   where
-    opened : When xs Accepted → Image xs
+    opened : When xs (Ok tt) → Image xs
     opened (When.image i) = i

@@ -1,5 +1,5 @@
 -- When the header is good, and what the bytes come to then.
-use Rattle.std.specs.Prelude.{◌≡◌, List, ℕ, ◌+◌, ◌-◌, ◌≤◌, ◌<◌, length, take, drop, true, false}
+use Rattle.std.specs.Prelude.{◌≡◌, List, ℕ, ◌+◌, ◌-◌, ◌≤◌, ◌<◌, length, take, drop, true, false, Ok, Err}
 use borrow.Author.Tests.{lt-ltb, le-ltb, eq-eqb, ne_eqb}
 use Rattle.std.proofs.Math.Nat.{add-sub_cancel_left}
 use Rattle.spans.specs.Bytes.{part, same}
@@ -7,28 +7,26 @@ use Rattle.fips.specs.Fips.{sha256}
 use Rattle.causes.specs.Header.{magic_number, header_magic, records_size, header_size, body_size, image_size}
 use Rattle.causes.specs.Check.{sizes, head, digest_at}
 use Rattle.causes.specs.declared.Cause.TheVariants.{HeaderMagic, HeaderSizes, DigestDiffers}
-use Rattle.causes.specs.declared.Layout.TheVariants.{Sound}
-use Rattle.causes.specs.declared.Verdict.TheVariants.{Accepted, Rejected}
-use Rattle.causes.specs.declared.Header.TheVariants.{Bad, Good}
+use Rattle.causes.specs.declared.Signed.{Signed}
 
 module _ (xs : List ℕ) where
-  pub sizes_small : header_size xs < 32 → sizes xs ≡ Bad HeaderSizes
+  pub sizes_small : header_size xs < 32 → sizes xs ≡ Err HeaderSizes
   unfolding sizes
   sizes_small h = rw (lt-ltb _ _ h)
 
-  pub sizes_above : 32 ≤ header_size xs → length xs < image_size xs → sizes xs ≡ Bad HeaderSizes
+  pub sizes_above : 32 ≤ header_size xs → length xs < image_size xs → sizes xs ≡ Err HeaderSizes
   unfolding sizes
   sizes_above h k = rw (le-ltb _ _ h, lt-ltb _ _ k)
 
-  pub sizes_good : 32 ≤ header_size xs → image_size xs ≤ length xs → sizes xs ≡ Good (header_size xs) (body_size xs) (records_size xs)
+  pub sizes_good : 32 ≤ header_size xs → image_size xs ≤ length xs → sizes xs ≡ Ok (record { header = header_size xs; body = body_size xs; records = records_size xs })
   unfolding sizes
   sizes_good h k = rw (le-ltb _ _ h, le-ltb _ _ k)
 
-  pub head_short : length xs < 32 → head xs ≡ Bad HeaderSizes
+  pub head_short : length xs < 32 → head xs ≡ Err HeaderSizes
   unfolding head
   head_short h = rw (lt-ltb _ _ h)
 
-  pub head_other : 32 ≤ length xs → (header_magic xs ≡ magic_number → ⊥) → head xs ≡ Bad HeaderMagic
+  pub head_other : 32 ≤ length xs → (header_magic xs ≡ magic_number → ⊥) → head xs ≡ Err HeaderMagic
   unfolding head
   head_other h n = rw (le-ltb _ _ h, ne_eqb _ _ n)
 
@@ -36,12 +34,12 @@ module _ (xs : List ℕ) where
   unfolding head
   head_known h e = rw (le-ltb _ _ h, eq-eqb _ _ e)
 
-module _ (xs : List ℕ) (covered at : ℕ) where
-  pub digest_same : same (part xs at 32) (sha256 (take covered xs)) ≡ true → digest_at (Sound covered at) xs ≡ Accepted
+module _ (xs : List ℕ) (s : Signed) where
+  pub digest_same : same (part xs s.digest 32) (sha256 (take s.covered xs)) ≡ true → digest_at (Ok s) xs ≡ Ok tt
   unfolding digest_at
   digest_same e = rw e
 
-  pub digest_other : same (part xs at 32) (sha256 (take covered xs)) ≡ false → digest_at (Sound covered at) xs ≡ Rejected DigestDiffers
+  pub digest_other : same (part xs s.digest 32) (sha256 (take s.covered xs)) ≡ false → digest_at (Ok s) xs ≡ Err DigestDiffers
   unfolding digest_at
   digest_other e = rw e
 

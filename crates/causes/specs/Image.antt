@@ -1,13 +1,12 @@
 -- What an image is, with no code in mind: document 01, "Image", and the layout of source document 003.
-use Rattle.std.specs.Prelude.{◌≡◌, List, [], ◌∷◌, ◌++◌, ℕ, ◌≤◌, ◌<◌, eqb, length, take}
+use Rattle.std.specs.Prelude.{◌≡◌, List, [], ◌∷◌, ◌++◌, ℕ, ◌≤◌, ◌<◌, eqb, length, take, Ok, Err}
 use Rattle.spans.specs.Choice.{pick}
 use Rattle.fips.specs.Fips.{sha256}
 use Rattle.fields.specs.Fields.{little}
 use Rattle.causes.specs.Header.{magic_number, header_magic, records_size, header_size, body_size, covered_size, image_size, records_area}
 use Rattle.records.specs.Records.{Trailing}
+use Rattle.causes.specs.Check.{Verdict}
 use Rattle.causes.specs.declared.Cause.TheVariants.{HeaderMagic, HeaderSizes, RecordsArea, DigestRecord, DigestDiffers}
-use Rattle.causes.specs.declared.Verdict.{Verdict}
-use Rattle.causes.specs.declared.Verdict.TheVariants.{Accepted, Rejected}
 
 -- ---- records in their layout
 
@@ -71,13 +70,13 @@ pub record OneDigest (rs : List Trailing) (d : Trailing) : Type 0 where
 
 -- The answer that bytes are due, for each answer: the causes of rejection in document 01's words, and acceptance.
 pub data When (xs : List ℕ) : Verdict → Type 0 where
-  fewer : length xs < 32 → When xs (Rejected HeaderSizes)
-  no_magic : 32 ≤ length xs → (header_magic xs ≡ magic_number → ⊥) → When xs (Rejected HeaderMagic)
-  small_header : 32 ≤ length xs → header_magic xs ≡ magic_number → header_size xs < 32 → When xs (Rejected HeaderSizes)
-  sum_above : 32 ≤ length xs → header_magic xs ≡ magic_number → length xs < image_size xs → When xs (Rejected HeaderSizes)
-  not_filled : GoodHeader xs → ((rs : List Trailing) → Fills (records_area xs) rs → ⊥) → When xs (Rejected RecordsArea)
+  fewer : length xs < 32 → When xs (Err HeaderSizes)
+  no_magic : 32 ≤ length xs → (header_magic xs ≡ magic_number → ⊥) → When xs (Err HeaderMagic)
+  small_header : 32 ≤ length xs → header_magic xs ≡ magic_number → header_size xs < 32 → When xs (Err HeaderSizes)
+  sum_above : 32 ≤ length xs → header_magic xs ≡ magic_number → length xs < image_size xs → When xs (Err HeaderSizes)
+  not_filled : GoodHeader xs → ((rs : List Trailing) → Fills (records_area xs) rs → ⊥) → When xs (Err RecordsArea)
   not_one : GoodHeader xs → (rs : List Trailing) → Fills (records_area xs) rs → ((d : Trailing) → OneDigest rs d → ⊥) → When xs
-      (Rejected DigestRecord)
+      (Err DigestRecord)
   differs : GoodHeader xs → (rs : List Trailing) → Fills (records_area xs) rs → (d : Trailing) → OneDigest rs d
-      → (d.bytes ≡ sha256 (take (covered_size xs) xs) → ⊥) → When xs (Rejected DigestDiffers)
-  image : Image xs → When xs Accepted
+      → (d.bytes ≡ sha256 (take (covered_size xs) xs) → ⊥) → When xs (Err DigestDiffers)
+  image : Image xs → When xs (Ok tt)

@@ -2,7 +2,7 @@
 use Rattle.std.proofs.Math.Path.{◌≡◌, refl, sym, ap}
 use Rattle.std.proofs.Common.{◌∙◌, ⊎_elim, arith, eqb-true, take-append-drop, drop-drop}
 use mathlib.Core.List.{List, [], ◌∷◌, ◌++◌, append-nil}
-use Rattle.std.specs.Prelude.{Bool, true, false, ℕ, suc, ◌+◌, ◌≤◌, ◌<◌, eqb, take, drop}
+use Rattle.std.specs.Prelude.{Bool, true, false, ℕ, suc, ◌+◌, ◌≤◌, ◌<◌, eqb, take, drop, Ok, Err}
 use Rattle.std.proofs.lemmas.Bool.{eqb-false}
 use Rattle.std.proofs.Math.ListN.{length}
 use Rattle.std.proofs.Math.Seq.{length-take-le}
@@ -10,17 +10,15 @@ use Rattle.spans.specs.Bytes.{part}
 use Rattle.spans.specs.Choice.{pick}
 use Rattle.causes.specs.Header.{magic_number, header_magic, records_size, header_size, body_size, covered_size, image_size, records_area}
 use Rattle.records.specs.Records.{Trailing, Split, Place, records, digests}
-use Rattle.causes.specs.Check.{head, one_digest, filled, layout_of, with_sizes, structure}
+use Rattle.causes.specs.Check.{Header, Layout, head, one_digest, filled, layout_of, with_sizes, structure}
 use Rattle.causes.specs.Image.{laid, of_type, GoodHeader, Fills, OneDigest}
 use Rattle.records.specs.RecordLaws.{less}
 use Rattle.causes.specs.LaidLaws.{Begins, begins, as_laid, Placed, placed}
 use Rattle.causes.specs.CheckLaws.{sizes_small, sizes_above, sizes_good, head_short, head_other, head_known}
 use Rattle.causes.specs.declared.Cause.{Cause}
 use Rattle.causes.specs.declared.Cause.TheVariants.{HeaderMagic, HeaderSizes, RecordsArea, DigestRecord}
-use Rattle.causes.specs.declared.Header.{Header}
-use Rattle.causes.specs.declared.Header.TheVariants.{Bad, Good}
-use Rattle.causes.specs.declared.Layout.{Layout}
-use Rattle.causes.specs.declared.Layout.TheVariants.{Wrong, Sound}
+use Rattle.causes.specs.declared.Sizes as declared
+use Rattle.causes.specs.declared.Signed.{Signed}
 
 -- ---- the header
 
@@ -31,11 +29,11 @@ pub record Sizes (xs : List ℕ) (header body size : ℕ) : Type 0 where
   pub records_are : size ≡ records_size xs
 
 pub data Heads (xs : List ℕ) : Header → Type 0 where
-  fewer : length xs < 32 → Heads xs (Bad HeaderSizes)
-  no_magic : 32 ≤ length xs → (header_magic xs ≡ magic_number → ⊥) → Heads xs (Bad HeaderMagic)
-  small_header : 32 ≤ length xs → header_magic xs ≡ magic_number → header_size xs < 32 → Heads xs (Bad HeaderSizes)
-  sum_above : 32 ≤ length xs → header_magic xs ≡ magic_number → length xs < image_size xs → Heads xs (Bad HeaderSizes)
-  good : {header body size : ℕ} → Sizes xs header body size → Heads xs (Good header body size)
+  fewer : length xs < 32 → Heads xs (Err HeaderSizes)
+  no_magic : 32 ≤ length xs → (header_magic xs ≡ magic_number → ⊥) → Heads xs (Err HeaderMagic)
+  small_header : 32 ≤ length xs → header_magic xs ≡ magic_number → header_size xs < 32 → Heads xs (Err HeaderSizes)
+  sum_above : 32 ≤ length xs → header_magic xs ≡ magic_number → length xs < image_size xs → Heads xs (Err HeaderSizes)
+  good : {s : declared.Sizes} → Sizes xs s.header s.body s.records → Heads xs (Ok s)
 
 pub heads : (xs : List ℕ) → Heads xs (head xs)
 heads xs = ⊎_elim (λ h. rw (head_short xs h) (Heads.fewer h)) lent (less (length xs) 32)
@@ -67,11 +65,11 @@ heads xs = ⊎_elim (λ h. rw (head_short xs h) (Heads.fewer h)) lent (less (len
     lent : 32 ≤ length xs → Heads xs (head xs)
     lent l = magic l (eqb (header_magic xs) magic_number) refl
 
-pub sizes_of : (xs : List ℕ) (header body size : ℕ) → head xs ≡ Good header body size → Sizes xs header body size
-sizes_of xs header body size e = opened (rw e at (heads xs))
+pub sizes_of : (xs : List ℕ) (s : declared.Sizes) → head xs ≡ Ok s → Sizes xs s.header s.body s.records
+sizes_of xs s e = opened (rw e at (heads xs))
   where
-    opened : Heads xs (Good header body size) → Sizes xs header body size
-    opened (Heads.good s) = s
+    opened : Heads xs (Ok s) → Sizes xs s.header s.body s.records
+    opened (Heads.good z) = z
 
 -- ---- the records
 
@@ -81,10 +79,10 @@ pub record DigestStands (xs : List ℕ) (at : ℕ) (d : Trailing) : Type 0 where
 
 -- for each cause of 3 and 4, and for bytes that pass to the digest
 pub data Comes (xs : List ℕ) (area : List ℕ) (covered : ℕ) : Layout → Type 0 where
-  not_filled : ((rs : List Trailing) → Fills area rs → ⊥) → Comes xs area covered (Wrong RecordsArea)
-  not_one : (rs : List Trailing) → Fills area rs → ((d : Trailing) → OneDigest rs d → ⊥) → Comes xs area covered (Wrong DigestRecord)
+  not_filled : ((rs : List Trailing) → Fills area rs → ⊥) → Comes xs area covered (Err RecordsArea)
+  not_one : (rs : List Trailing) → Fills area rs → ((d : Trailing) → OneDigest rs d → ⊥) → Comes xs area covered (Err DigestRecord)
   sound : {at : ℕ} → (rs : List Trailing) → Fills area rs → (d : Trailing) → OneDigest rs d → DigestStands xs at d → Comes xs area covered
-      (Sound covered at)
+      (Ok (record { covered = covered; digest = at }))
 
 as_many : (xs : List ℕ) (ps : List Place) (ds : List Trailing) → Placed xs ps ds → length ps ≡ length ds
 as_many xs [] [] Placed.none = refl
@@ -102,7 +100,7 @@ one_of xs area covered rs f [] (d ∷ ds) e w = absurd (omega (arith, as_many xs
 one_of xs area covered rs f (p ∷ []) [] e w = absurd (omega (arith, as_many xs (p ∷ []) [] w))
 one_of xs area covered rs f (p ∷ []) (d ∷ []) e (Placed.more h w) = sized (eqb p.size 32) refl
   where
-    sized : (t : Bool) → eqb p.size 32 ≡ t → Comes xs area covered (pick t (Sound covered p.at) (Wrong DigestRecord))
+    sized : (t : Bool) → eqb p.size 32 ≡ t → Comes xs area covered (pick t (Ok (record { covered = covered; digest = p.at })) (Err DigestRecord))
     sized true k =
         let n : p.size ≡ 32 = eqb-true p.size 32 k in
         let l : length d.bytes ≡ 32 = sym h.sized ∙ n in
@@ -154,23 +152,23 @@ cut xs at size =
     sym (ap (λ (t : List ℕ). take at xs ++ t) (ap (λ (t : List ℕ). take size (drop at xs) ++ t) (sym (drop-drop size at xs))
     ∙ take-append-drop size (drop at xs)) ∙ take-append-drop at xs)
 
-pub structure_bad : (xs : List ℕ) (c : Cause) → head xs ≡ Bad c → structure xs ≡ Wrong c
+pub structure_bad : (xs : List ℕ) (c : Cause) → head xs ≡ Err c → structure xs ≡ Err c
 unfolding structure with_sizes
 structure_bad xs c e = rw e
 
-pub structure_good : (xs : List ℕ) (header body size : ℕ) → head xs ≡ Good header body size
-    → structure xs ≡ layout_of (header + body) (records (part xs (header + body) size))
+pub structure_good : (xs : List ℕ) (s : declared.Sizes) → head xs ≡ Ok s
+    → structure xs ≡ layout_of (s.header + s.body) (records (part xs (s.header + s.body) s.records))
 unfolding structure with_sizes
-structure_good xs header body size e = rw e
+structure_good xs s e = rw e
 
 module _ (xs : List ℕ) (g : GoodHeader xs) where
   pub comes : Comes xs (records_area xs) (covered_size xs) (structure xs)
   unfolding records_area covered_size image_size
   comes =
-      let e : head xs ≡ Good (header_size xs) (body_size xs) (records_size xs) = head_known xs g.lent g.magic ∙ sizes_good xs
+      let e : head xs ≡ Ok (record { header = header_size xs; body = body_size xs; records = records_size xs }) = head_known xs g.lent g.magic ∙ sizes_good xs
       g.header g.fits in
       let l : length (take (covered_size xs) xs) ≡ covered_size xs = length-take-le (covered_size xs) xs (omega (arith, g.fits)) in
-      rw (structure_good xs (header_size xs) (body_size xs) (records_size xs) e)
+      rw (structure_good xs _ e)
       (comes_of xs (records_area xs) (covered_size xs) (take (covered_size xs) xs) (drop (image_size xs) xs) (cut xs (covered_size xs)
       (records_size xs)) l)
 
@@ -180,18 +178,20 @@ pub record Within (xs : List ℕ) (covered at : ℕ) : Type 0 where
   pub covers : covered ≤ length xs
   pub stands : at + 32 ≤ length xs
 
-pub sound_within : (xs : List ℕ) (covered at : ℕ) → structure xs ≡ Sound covered at → Within xs covered at
+pub sound_within : (xs : List ℕ) (s : Signed) → structure xs ≡ Ok s → Within xs s.covered s.digest
 unfolding image_size covered_size
-sound_within xs covered at e = by (head xs) refl (heads xs)
+sound_within xs s e = by (head xs) refl (heads xs)
   where
-    opened : (l : Layout) → l ≡ Sound covered at → GoodHeader xs → Comes xs (records_area xs) (covered_size xs) l → Within xs covered at
+    opened : (l : Layout) → l ≡ Ok s → GoodHeader xs → Comes xs (records_area xs) (covered_size xs) l
+        → Within xs s.covered s.digest
     opened l k g (Comes.not_filled n) = let z : ◌≡◌ {A = ℕ} 0 1 = cc in absurd (omega arith)
     opened l k g (Comes.not_one rs f n) = let z : ◌≡◌ {A = ℕ} 0 1 = cc in absurd (omega arith)
-    opened l k g (Comes.sound {at = there} rs f d o s) =
-        let a : covered_size xs ≡ covered = cc in
-        let b : there ≡ at = cc in
-        record { least = omega (arith, g.header); covers = omega (arith, g.fits); stands = omega (arith, s.within) }
+    opened l k g (Comes.sound {at = there} rs f d o stands) =
+        let same : ◌≡◌ {A = Signed} (record { covered = covered_size xs; digest = there }) s = cc in
+        let a : covered_size xs ≡ s.covered = ap (λ (t : Signed). t.covered) same in
+        let b : there ≡ s.digest = ap (λ (t : Signed). t.digest) same in
+        record { least = omega (arith, g.header); covers = omega (arith, g.fits); stands = omega (arith, stands.within) }
 
-    by : (h : Header) → head xs ≡ h → Heads xs h → Within xs covered at
-    by (Bad c) k w = let b = structure_bad xs c k in let z : ◌≡◌ {A = ℕ} 0 1 = cc in absurd (omega arith)
-    by (Good header body size) k (Heads.good s) = opened (structure xs) e s.good (comes xs s.good)
+    by : (h : Header) → head xs ≡ h → Heads xs h → Within xs s.covered s.digest
+    by (Err c) k w = let b = structure_bad xs c k in let z : ◌≡◌ {A = ℕ} 0 1 = cc in absurd (omega arith)
+    by (Ok t) k (Heads.good z) = opened (structure xs) e z.good (comes xs z.good)

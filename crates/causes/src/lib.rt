@@ -1,11 +1,11 @@
-// What the image check answers, and why; specs/Image.antt says what an image is, specs/Check.antt gives each answer.
+// Why the image check rejects, and what passes from step to step; specs/Image.antt says what an image is, specs/Check.antt gives each answer.
 #![tactic(auto)]
 
 ghost use Rattle.std.specs.Prelude.{◌≡◌};
 ghost use Rattle.causes.specs.Check.{number_of};
 
 // Why an image is rejected; specs/Check.antt gives the numbers.
-#[derive(Clone, Copy)]
+#[derive(Clone, Copy, PartialEq, Eq)]
 pub enum Cause {
     HeaderMagic,
     HeaderSizes,
@@ -14,28 +14,19 @@ pub enum Cause {
     DigestDiffers,
 }
 
+// The sizes that a good header says.
 #[derive(Clone, Copy)]
-pub enum Verdict {
-    Accepted,
-    Rejected(Cause),
+pub struct Sizes {
+    pub header: usize,
+    pub body: usize,
+    pub records: usize,
 }
 
-// What the header comes to: cause 1 or 2, or the three sizes.
+// What is left to the digest, after causes 1 to 4: how many bytes it covers, and where it stands.
 #[derive(Clone, Copy)]
-pub enum Header {
-    Bad(Cause),
-    Good {
-        header: usize,
-        body: usize,
-        records: usize,
-    },
-}
-
-// What the bytes come to before the digest: a cause from 1 to 4, or how many bytes the digest covers and where it stands.
-#[derive(Clone, Copy)]
-pub enum Layout {
-    Wrong(Cause),
-    Sound { covered: usize, digest: usize },
+pub struct Signed {
+    pub covered: usize,
+    pub digest: usize,
 }
 
 // The number that document 01 gives a cause.

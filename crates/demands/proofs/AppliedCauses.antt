@@ -1,5 +1,5 @@
 -- The theorems about refusals 3 and 4 applied, each with a cause that slot 0 meets: with erased bytes cause 1, with no records cause 4.
-use Rattle.std.specs.Prelude.{◌≡◌, refl, List, [], true, ℕ, ◌≤◌}
+use Rattle.std.specs.Prelude.{◌≡◌, refl, List, [], true, ℕ, ◌≤◌, Err}
 use Rattle.std.proofs.Common.{sym, ap, ◌∙◌, arith}
 use Rattle.spans.specs.Bytes.{part, put, blank, same}
 use Rattle.spans.specs.Choice.{every}
@@ -10,7 +10,6 @@ use Rattle.flash.specs.Base.{base}
 use Rattle.flash.specs.Operations.{steps}
 use Rattle.trailer.specs.Trailer.{magic_bytes, trailer, magic_of, mark_of, is_good, is_no_magic, is_unset, has_value, written, legal}
 use Rattle.causes.specs.declared.Cause.TheVariants.{HeaderMagic, DigestRecord}
-use Rattle.causes.specs.declared.Verdict.TheVariants.{Rejected}
 use Rattle.causes.specs.Header.{header_magic, records_size, header_size, body_size, covered_size, image_size}
 use Rattle.causes.specs.Check.{number_of, sizes, head, one_digest, filled, layout_of, with_sizes, structure, digest_at, check}
 use Rattle.causes.specs.Edges.{header}
@@ -42,7 +41,7 @@ to_d bytes r e l = record {
 -- ---- refusal 3
 
 erased : ((full_start true small 4000 (booted [])).answer.outcome ≡ Outcome.Refused Refusal.Header)
-    × (check (data_of small (full_start true small 4000 (booted [])).flash.in0) ≡ Rejected HeaderMagic)
+    × (check (data_of small (full_start true small 4000 (booted [])).flash.in0) ≡ Err HeaderMagic)
 unfolding booted small put part blank same every little field asked fits valid base steps magic_bytes trailer magic_of mark_of is_good is_no_magic is_unset
     has_value written legal header_magic sizes head with_sizes structure digest_at check step_a continue step_b state_c asks judged decide list_of
     ok_unset done_of found_of judged_start started data_of boot_of ended carried answered refused on_course full_start
@@ -59,7 +58,7 @@ erased_refused =
 -- ---- refusal 4
 
 no_records : ((full_start true small 4000 (booted (header 0 32 8 0))).answer.outcome ≡ Outcome.Refused (Refusal.Image DigestRecord))
-    × (check (data_of small (full_start true small 4000 (booted (header 0 32 8 0))).flash.in0) ≡ Rejected DigestRecord)
+    × (check (data_of small (full_start true small 4000 (booted (header 0 32 8 0))).flash.in0) ≡ Err DigestRecord)
 unfolding booted header small put part blank same every little field record_at step_at after record_of first_then split_in records digests asked fits
     valid base steps magic_bytes trailer magic_of mark_of is_good is_no_magic is_unset has_value written legal header_magic records_size header_size body_size
     covered_size image_size sizes head one_digest filled layout_of with_sizes structure digest_at check step_a continue step_b state_c asks judged decide

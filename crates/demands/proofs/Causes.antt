@@ -2,7 +2,7 @@
 -- 5, and either comes exactly where it is due.
 use Rattle.std.proofs.Math.Path.{◌≡◌, refl, ap, subst}
 use Rattle.std.proofs.Common.{sym, ◌∙◌}
-use Rattle.std.specs.Prelude.{List, Bool, ℕ, ◌≤◌, length, take, ltb}
+use Rattle.std.specs.Prelude.{List, Bool, ℕ, ◌≤◌, length, take, ltb, Ok, Err}
 use Rattle.std.proofs.Math.Bool.{true, false}
 use Rattle.std.proofs.lemmas.Bool.{false≢true}
 use native.Mathlib.Omega.{arith}
@@ -15,13 +15,8 @@ use Rattle.flash.specs.Base.{build}
 use Rattle.flash.specs.Operations.{run}
 use Rattle.causes.specs.declared.Cause.{Cause}
 use Rattle.causes.specs.declared.Cause.TheVariants.{HeaderMagic, HeaderSizes, RecordsArea, DigestRecord, DigestDiffers}
-use Rattle.causes.specs.declared.Header.{Header}
-use Rattle.causes.specs.declared.Layout.{Layout}
-use Rattle.causes.specs.declared.Layout.TheVariants.{Wrong, Sound}
-use Rattle.causes.specs.declared.Verdict.{Verdict}
-use Rattle.causes.specs.declared.Verdict.TheVariants.{Accepted, Rejected}
 use Rattle.causes.specs.Header.{header_size, covered_size, records_area}
-use Rattle.causes.specs.Check.{number_of, head, structure, digest_at, check, accepted}
+use Rattle.causes.specs.Check.{Header, Layout, Verdict, number_of, head, structure, digest_at, check, accepted}
 use Rattle.causes.specs.StructureLaws.{Heads, heads, Comes, comes, structure_bad}
 use Rattle.plan.specs.Decision.{decide, in_force}
 use Rattle.answers.specs.declared.Answer.{Answer}
@@ -36,11 +31,11 @@ use Rattle.demands.proofs.AsListed.{as_listed_lem}
 -- What D comes to, for slot 0's data bytes: "3 | slot 0, at D, would meet cause 1 or 2", "4 | full start, checking chosen: cause 3, 4 or 5 in
 -- slot 0; the cause is given"; else "the answer is its header size as an offset".
 pub data AtD (checked : Bool) (xs : List ℕ) : Outcome → Type 0 where
-  meets_1_or_2 : (c : Cause) → check xs ≡ Rejected c → number_of c ≤ 2 → AtD checked xs (Outcome.Refused Refusal.Header)
-  meets_3_to_5 : (c : Cause) → check xs ≡ Rejected c → 3 ≤ number_of c → checked ≡ true → AtD checked xs
+  meets_1_or_2 : (c : Cause) → check xs ≡ Err c → number_of c ≤ 2 → AtD checked xs (Outcome.Refused Refusal.Header)
+  meets_3_to_5 : (c : Cause) → check xs ≡ Err c → 3 ≤ number_of c → checked ≡ true → AtD checked xs
       (Outcome.Refused (Refusal.Image c))
-  not_checked : (c : Cause) → check xs ≡ Rejected c → 3 ≤ number_of c → checked ≡ false → AtD checked xs (Outcome.Boot (header_size xs))
-  accepts : check xs ≡ Accepted → AtD checked xs (Outcome.Boot (header_size xs))
+  not_checked : (c : Cause) → check xs ≡ Err c → 3 ≤ number_of c → checked ≡ false → AtD checked xs (Outcome.Boot (header_size xs))
+  accepts : check xs ≡ Ok tt → AtD checked xs (Outcome.Boot (header_size xs))
 
 numbers : (c : Cause) → (1 ≤ number_of c) × (number_of c ≤ 5)
 unfolding number_of
@@ -53,7 +48,7 @@ numbers DigestDiffers = (omega arith, omega arith)
 -- ---- the header's causes are 1 and 2, those behind it 3 to 5
 
 module _ (xs : List ℕ) where
-  low : (c : Cause) → Heads xs (Header.Bad c) → number_of c ≤ 2
+  low : (c : Cause) → Heads xs (Err c) → number_of c ≤ 2
   unfolding number_of
   low HeaderSizes (Heads.fewer h) = omega arith
   low HeaderMagic (Heads.no_magic l n) = omega arith
@@ -63,55 +58,55 @@ module _ (xs : List ℕ) where
   low DigestRecord w = elim w [ ]
   low DigestDiffers w = elim w [ ]
 
-  high : (l : Layout) → Comes xs (records_area xs) (covered_size xs) l → (c : Cause) → digest_at l xs ≡ Rejected c → 3 ≤ number_of c
+  high : (l : Layout) → Comes xs (records_area xs) (covered_size xs) l → (c : Cause) → digest_at l xs ≡ Err c → 3 ≤ number_of c
   unfolding number_of digest_at
-  high (Wrong RecordsArea) (Comes.not_filled n) c e = let k : RecordsArea ≡ c = cc in subst (λ (x : Cause). 3 ≤ number_of x) k (omega arith)
-  high (Wrong DigestRecord) (Comes.not_one rs f n) c e =
+  high (Err RecordsArea) (Comes.not_filled n) c e = let k : RecordsArea ≡ c = cc in subst (λ (x : Cause). 3 ≤ number_of x) k (omega arith)
+  high (Err DigestRecord) (Comes.not_one rs f n) c e =
       let k : DigestRecord ≡ c = cc in subst (λ (x : Cause). 3 ≤ number_of x) k (omega arith)
-  high (Sound covered at) (Comes.sound rs f d o s) c e = go (same (part xs at 32) (sha256 (take covered xs))) e
+  high (Ok k) (Comes.sound rs f d o s) c e = go (same (part xs k.digest 32) (sha256 (take k.covered xs))) e
     where
-      go : (t : Bool) → pick t Accepted (Rejected DigestDiffers) ≡ Rejected c → 3 ≤ number_of c
+      go : (t : Bool) → ◌≡◌ {A = Verdict} (pick t (Ok tt) (Err DigestDiffers)) (Err c) → 3 ≤ number_of c
       go true e = let z : ◌≡◌ {A = ℕ} 0 1 = cc in absurd (omega arith)
       go false e = let k : DigestDiffers ≡ c = cc in subst (λ (x : Cause). 3 ≤ number_of x) k (omega arith)
-  high (Wrong HeaderMagic) w c e = elim w [ ]
-  high (Wrong HeaderSizes) w c e = elim w [ ]
-  high (Wrong DigestDiffers) w c e = elim w [ ]
+  high (Err HeaderMagic) w c e = elim w [ ]
+  high (Err HeaderSizes) w c e = elim w [ ]
+  high (Err DigestDiffers) w c e = elim w [ ]
 
-  good : (checked : Bool) (v : Verdict) → check xs ≡ v → ((c : Cause) → check xs ≡ Rejected c → 3 ≤ number_of c)
+  good : (checked : Bool) (v : Verdict) → check xs ≡ v → ((c : Cause) → check xs ≡ Err c → 3 ≤ number_of c)
       → AtD checked xs (pick checked (judged_start (header_size xs) v) (Outcome.Boot (header_size xs)))
   unfolding judged_start
-  good true Accepted e h = accepts e
-  good false Accepted e h = accepts e
-  good true (Rejected c) e h = meets_3_to_5 c e (h c e) refl
-  good false (Rejected c) e h = not_checked c e (h c e) refl
+  good true (Ok tt) e h = accepts e
+  good false (Ok tt) e h = accepts e
+  good true (Err c) e h = meets_3_to_5 c e (h c e) refl
+  good false (Err c) e h = not_checked c e (h c e) refl
 
   pub at_d : (checked : Bool) → AtD checked xs (started checked (head xs) (check xs))
   unfolding started check digest_at
   at_d checked = by (head xs) refl (heads xs)
     where
       by : (h : Header) → head xs ≡ h → Heads xs h → AtD checked xs (started checked h (check xs))
-      by (Header.Bad c) e w = meets_1_or_2 c (ap (λ (l : Layout). digest_at l xs) (structure_bad xs c e)) (low c w)
-      by (Header.Good header body records) e (Heads.good s) =
-          subst (λ (n : ℕ). AtD checked xs (started checked (Header.Good n body records) (check xs))) (sym s.header_is)
+      by (Err c) e w = meets_1_or_2 c (ap (λ (l : Layout). digest_at l xs) (structure_bad xs c e)) (low c w)
+      by (Ok t) e (Heads.good s) =
+          subst (λ (n : ℕ). AtD checked xs (pick checked (judged_start n (check xs)) (Outcome.Boot n))) (sym s.header_is)
           (good checked (check xs) refl (high (structure xs) (comes xs s.good)))
 
 -- ---- D comes to one thing
 
 module _ {checked : Bool} {xs : List ℕ} where
-  three : {o : Outcome} → AtD checked xs o → (c : Cause) → check xs ≡ Rejected c → number_of c ≤ 2 → o ≡ Outcome.Refused Refusal.Header
+  three : {o : Outcome} → AtD checked xs o → (c : Cause) → check xs ≡ Err c → number_of c ≤ 2 → o ≡ Outcome.Refused Refusal.Header
   three (meets_1_or_2 d e l) c k m = refl
   three (meets_3_to_5 d e l t) c k m = let same : d ≡ c = cc in absurd (omega (arith, ap number_of same))
   three (not_checked d e l t) c k m = let same : d ≡ c = cc in absurd (omega (arith, ap number_of same))
   three (accepts e) c k m = let z : ◌≡◌ {A = ℕ} 0 1 = cc in absurd (omega arith)
 
-  four : {o : Outcome} → AtD checked xs o → (c : Cause) → check xs ≡ Rejected c → 3 ≤ number_of c → checked ≡ true
+  four : {o : Outcome} → AtD checked xs o → (c : Cause) → check xs ≡ Err c → 3 ≤ number_of c → checked ≡ true
       → o ≡ Outcome.Refused (Refusal.Image c)
   four (meets_1_or_2 d e l) c k m t = let same : d ≡ c = cc in absurd (omega (arith, ap number_of same))
   four (meets_3_to_5 d e l u) c k m t = let same : d ≡ c = cc in ap (λ (x : Cause). Outcome.Refused (Refusal.Image x)) same
   four (not_checked d e l u) c k m t = absurd (false≢true (sym u ∙ t))
   four (accepts e) c k m t = let z : ◌≡◌ {A = ℕ} 0 1 = cc in absurd (omega arith)
 
-  pub boots : {o : Outcome} → AtD checked xs o → check xs ≡ Accepted → o ≡ Outcome.Boot (header_size xs)
+  pub boots : {o : Outcome} → AtD checked xs o → check xs ≡ Ok tt → o ≡ Outcome.Boot (header_size xs)
   boots (meets_1_or_2 d e l) k = let z : ◌≡◌ {A = ℕ} 0 1 = cc in absurd (omega arith)
   boots (meets_3_to_5 d e l t) k = let z : ◌≡◌ {A = ℕ} 0 1 = cc in absurd (omega arith)
   boots (not_checked d e l t) k = refl
@@ -128,7 +123,7 @@ module _ {checked : Bool} {xs : List ℕ} where
   by_4 (meets_1_or_2 d e l) c k = let z : ◌≡◌ {A = ℕ} 0 1 = cc in absurd (omega arith)
   by_4 (meets_3_to_5 d e l t) c k =
       let same : d ≡ c = cc in
-      record { chosen = t; met = e ∙ ap Rejected same; least = omega (arith, ap number_of same); most = (numbers c).1 }
+      record { chosen = t; met = e ∙ ap Err same; least = omega (arith, ap number_of same); most = (numbers c).1 }
   by_4 (not_checked d e l t) c k = let z : ◌≡◌ {A = ℕ} 0 1 = cc in absurd (omega arith)
   by_4 (accepts e) c k = let z : ◌≡◌ {A = ℕ} 0 1 = cc in absurd (omega arith)
 
@@ -184,11 +179,11 @@ module _ {checked : Bool} {g : Geometry} {b : ℕ} {f f' : Flash} {a : Answer} (
       by_4 (start_at_d to) c e
 
   -- and where they are due they come
-  pub refusal_3_due : ToD a → (c : Cause) → check (data_of g f'.in0) ≡ Rejected c → number_of c ≤ 2
+  pub refusal_3_due : ToD a → (c : Cause) → check (data_of g f'.in0) ≡ Err c → number_of c ≤ 2
       → a.outcome ≡ Outcome.Refused Refusal.Header
   refusal_3_due to = three (start_at_d to)
 
-  pub refusal_4_due : ToD a → (c : Cause) → check (data_of g f'.in0) ≡ Rejected c → 3 ≤ number_of c → checked ≡ true
+  pub refusal_4_due : ToD a → (c : Cause) → check (data_of g f'.in0) ≡ Err c → 3 ≤ number_of c → checked ≡ true
       → a.outcome ≡ Outcome.Refused (Refusal.Image c)
   refusal_4_due to = four (start_at_d to)
 
@@ -196,7 +191,7 @@ module _ {checked : Bool} {g : Geometry} {b : ℕ} {f f' : Flash} {a : Answer} (
   pub not_4_of_1_or_2 : (c : Cause) → number_of c ≤ 2 → a.outcome ≡ Outcome.Refused (Refusal.Image c) → ⊥
   not_4_of_1_or_2 c l e = omega (arith, (refusal_4 c e).least)
 
-  pub not_3_of_3_to_5 : (c : Cause) → 3 ≤ number_of c → check (data_of g f'.in0) ≡ Rejected c → a.outcome ≡ Outcome.Refused Refusal.Header
+  pub not_3_of_3_to_5 : (c : Cause) → 3 ≤ number_of c → check (data_of g f'.in0) ≡ Err c → a.outcome ≡ Outcome.Refused Refusal.Header
       → ⊥
   not_3_of_3_to_5 c l k e =
       let m = refusal_3 e in

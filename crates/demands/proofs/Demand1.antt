@@ -1,7 +1,7 @@
 -- DEMAND 1. Whatever the three areas hold, a power-up ends with a boot offset, a stop at its allowance, or a refusal numbered 1 to 4;
 -- a wrong geometry and damaged marks are refused before anything is written. (That no memory outside the areas is touched, and that
 -- every call returns, is what a proved Rattle function is: the prover accepts no other.)
-use Rattle.std.specs.Prelude.{◌≡◌, refl, List, Bool, true, false, ℕ, ◌≤◌, length, ltb}
+use Rattle.std.specs.Prelude.{◌≡◌, refl, List, Bool, true, false, ℕ, ◌≤◌, length, ltb, Ok, Err}
 use Rattle.std.proofs.Common.{sym, subst, ◌∙◌, arith}
 use Rattle.std.proofs.Math.Path.{ap}
 use Rattle.spans.specs.Choice.{pick}
@@ -9,9 +9,7 @@ use Rattle.flash.specs.declared.Geometry.{Geometry}
 use Rattle.flash.specs.Build.{Flash, valid}
 use Rattle.flash.specs.Base.{build}
 use Rattle.flash.specs.Operations.{run}
-use Rattle.causes.specs.declared.Header.{Header}
-use Rattle.causes.specs.declared.Verdict.{Verdict}
-use Rattle.causes.specs.Check.{head, check, accepted}
+use Rattle.causes.specs.Check.{Header, Verdict, head, check, accepted}
 use Rattle.plan.specs.declared.Course.{Course}
 use Rattle.plan.specs.declared.Course.TheVariants.{Damage}
 use Rattle.plan.specs.Decision.{decide, in_force}
@@ -27,10 +25,10 @@ use Rattle.demands.proofs.AsListed.{as_listed_lem}
 
 booted : (checked : Bool) (h : Header) (v : Verdict) → Ends (started checked h v)
 unfolding started judged_start refusal_number
-booted checked (Header.Bad c) v = refuses Refusal.Header (omega arith) (omega arith)
-booted false (Header.Good o b r) v = boots o
-booted true (Header.Good o b r) Verdict.Accepted = boots o
-booted true (Header.Good o b r) (Verdict.Rejected c) = refuses (Refusal.Image c) (omega arith) (omega arith)
+booted checked (Err c) v = refuses Refusal.Header (omega arith) (omega arith)
+booted false (Ok t) v = boots t.header
+booted true (Ok t) (Ok tt) = boots t.header
+booted true (Ok t) (Err c) = refuses (Refusal.Image c) (omega arith) (omega arith)
 
 listed_ends : (checked : Bool) (g : Geometry) (b : ℕ) (f : Flash) (course : Course) → Ends (as_listed checked g b f course).answer.outcome
 unfolding as_listed boot_of

@@ -1,7 +1,7 @@
 -- DEMAND 2, the image: what a power-up exchanges is an image, what it clears out is none. (That the check accepts exactly images is
 -- `accepts_images` and `accepts_only_images` of crate causes, Theorem.antt; what is booted after an exchange, Boots.antt.)
 -- ---- accepted exactly when it is an image
-use Rattle.std.specs.Prelude.{◌≡◌, List, Bool, ◌&&◌, not, ℕ, ◌+◌, ◌*◌, eqb}
+use Rattle.std.specs.Prelude.{◌≡◌, List, Bool, ◌&&◌, not, ℕ, ◌+◌, ◌*◌, eqb, Ok, Err}
 use Rattle.std.proofs.Math.Path.{refl}
 use Rattle.std.proofs.Common.{sym, ap, ◌∙◌}
 use Rattle.std.proofs.Math.Bool.{true, false, false≢true}
@@ -12,8 +12,7 @@ use Rattle.flash.specs.declared.Geometry.{Geometry}
 use Rattle.flash.specs.Build.{Build, Flash}
 use Rattle.flash.specs.Base.{build}
 use Rattle.trailer.specs.Trailer.{ok_at, copy_done_at, magic_of, is_good, mark_of, is_unset, has_value, written, legal}
-use Rattle.causes.specs.declared.Verdict.{Verdict}
-use Rattle.causes.specs.Check.{check, is_accepted, accepted}
+use Rattle.causes.specs.Check.{Verdict, check, is_accepted, accepted}
 use Rattle.causes.specs.Image.{Image}
 use Rattle.causes.proofs.Theorem.{accepts_images, accepts_only_images}
 use Rattle.plan.specs.declared.Course.{Course}
@@ -24,10 +23,10 @@ use Rattle.plan.specs.DecisionLaws.{test_due, permanent_due, revert_due, decide_
 use Rattle.recovery.specs.Statement.{Exchange, by_test, by_permanent, by_revert}
 use Rattle.loader.specs.PowerUp.{data_of}
 
-of_verdict : (v : Verdict) → is_accepted v ≡ true → v ≡ Verdict.Accepted
+of_verdict : (v : Verdict) → is_accepted v ≡ true → v ≡ (Ok tt)
 unfolding is_accepted
-of_verdict Verdict.Accepted h = refl
-of_verdict (Verdict.Rejected c) h = absurd (false≢true h)
+of_verdict (Ok tt) h = refl
+of_verdict (Err c) h = absurd (false≢true h)
 
 pub accepted_image : (xs : List ℕ) → accepted xs ≡ true → Image xs
 unfolding accepted

@@ -1,14 +1,12 @@
 -- When a start answers Stopped.
-use Rattle.std.specs.Prelude.{◌≡◌, refl, List, Bool, true, false, ℕ, ◌<◌, length, ltb}
+use Rattle.std.specs.Prelude.{◌≡◌, refl, List, Bool, true, false, ℕ, ◌<◌, length, ltb, Ok, Err}
 use Rattle.std.proofs.Common.{sym, ap, ◌∙◌, arith, ltb-true}
 use Rattle.spans.specs.Choice.{pick}
 use Rattle.flash.specs.declared.Geometry.{Geometry}
 use Rattle.flash.specs.Build.{Flash, valid}
 use Rattle.flash.specs.Base.{build}
 use Rattle.flash.specs.Operations.{Op, run}
-use Rattle.causes.specs.declared.Header.{Header}
-use Rattle.causes.specs.declared.Verdict.{Verdict}
-use Rattle.causes.specs.Check.{head, check, accepted}
+use Rattle.causes.specs.Check.{Header, Verdict, head, check, accepted}
 use Rattle.plan.specs.Decision.{decide, in_force}
 use Rattle.answers.specs.declared.Answer.{Answer}
 use Rattle.answers.specs.declared.Refusal.{Refusal}
@@ -22,10 +20,10 @@ use Rattle.demands.proofs.AsListed.{as_listed_lem}
 -- slot 0, once it is looked at, is booted or refused
 not_stopped : (checked : Bool) (h : Header) (v : Verdict) → started checked h v ≡ Outcome.Stopped → ⊥
 unfolding started judged_start
-not_stopped checked (Header.Bad c) v e = let z : ◌≡◌ {A = ℕ} 0 1 = cc in omega arith
-not_stopped false (Header.Good o b r) v e = let z : ◌≡◌ {A = ℕ} 0 1 = cc in omega arith
-not_stopped true (Header.Good o b r) Verdict.Accepted e = let z : ◌≡◌ {A = ℕ} 0 1 = cc in omega arith
-not_stopped true (Header.Good o b r) (Verdict.Rejected c) e = let z : ◌≡◌ {A = ℕ} 0 1 = cc in omega arith
+not_stopped checked (Err c) v e = let z : ◌≡◌ {A = ℕ} 0 1 = cc in omega arith
+not_stopped false (Ok t) v e = let z : ◌≡◌ {A = ℕ} 0 1 = cc in omega arith
+not_stopped true (Ok t) (Ok tt) e = let z : ◌≡◌ {A = ℕ} 0 1 = cc in omega arith
+not_stopped true (Ok t) (Err c) e = let z : ◌≡◌ {A = ℕ} 0 1 = cc in omega arith
 
 refusal : (r : Refusal) → Outcome.Refused r ≡ Outcome.Stopped → ⊥
 refusal r e = let z : ◌≡◌ {A = ℕ} 0 1 = cc in omega arith

@@ -1,13 +1,12 @@
 -- What the theorems about a power-up speak of: how it ends, its answer by the list in force, refusals 3 and 4 by their causes, and starts one
 -- after the other.
-use Rattle.std.specs.Prelude.{◌≡◌, List, [], ◌∷◌, Bool, true, ℕ, ◌≤◌, min, length, ltb}
+use Rattle.std.specs.Prelude.{◌≡◌, List, [], ◌∷◌, Bool, true, ℕ, ◌≤◌, min, length, ltb, Err}
 use Rattle.spans.specs.Choice.{pick}
 use Rattle.flash.specs.declared.Geometry.{Geometry}
 use Rattle.flash.specs.Build.{Flash}
 use Rattle.flash.specs.Base.{build}
 use Rattle.flash.specs.Operations.{run}
 use Rattle.causes.specs.declared.Cause.{Cause}
-use Rattle.causes.specs.declared.Verdict.TheVariants.{Rejected}
 use Rattle.causes.specs.Check.{number_of, check, accepted}
 use Rattle.plan.specs.declared.Course.{Course}
 use Rattle.plan.specs.Decision.{in_force, done_of, found_of}
@@ -40,14 +39,14 @@ as_listed checked g b f course =
 -- the image check meets cause 1 or 2
 pub record MeetsLow (xs : List ℕ) : Type 0 where
   pub cause : Cause
-  pub met : check xs ≡ Rejected cause
+  pub met : check xs ≡ Err cause
   pub least : 1 ≤ number_of cause
   pub most : number_of cause ≤ 2
 
 -- the cause that is given with refusal 4
 pub record MeetsHigh (checked : Bool) (xs : List ℕ) (c : Cause) : Type 0 where
   pub chosen : checked ≡ true
-  pub met : check xs ≡ Rejected c
+  pub met : check xs ≡ Err c
   pub least : 3 ≤ number_of c
   pub most : number_of c ≤ 5
 

@@ -1,19 +1,17 @@
 -- What the whole walk over the trailing records comes to.
-use Rattle.std.specs.Prelude.{◌≡◌, refl, List, [], ◌∷◌, Bool, true, false, ℕ, ◌+◌, ◌<◌, ◌≤◌, length, eqb}
+use Rattle.std.specs.Prelude.{◌≡◌, refl, List, [], ◌∷◌, Bool, true, false, ℕ, ◌+◌, ◌<◌, ◌≤◌, length, eqb, Ok, Err}
 use Rattle.std.proofs.Common.{arith, ne_eqb}
 use Rattle.spans.specs.Choice.{pick}
 use Rattle.records.specs.Records.{Trailing, Split, Place, digests}
 use Rattle.records.specs.Walk.{counted, unless_over, walked, place_or_cause}
-use Rattle.causes.specs.Check.{one_digest, filled, layout_of}
+use Rattle.causes.specs.Check.{Layout, one_digest, filled, layout_of}
 use Rattle.causes.specs.declared.Cause.TheVariants.{RecordsArea, DigestRecord}
-use Rattle.causes.specs.declared.Layout.{Layout}
-use Rattle.causes.specs.declared.Layout.TheVariants.{Wrong, Sound}
 
 unfoldable pub of_number : ℕ → ℕ → Layout
-of_number covered n = pick (eqb n 3) (Wrong RecordsArea) (pick (eqb n 4) (Wrong DigestRecord) (Sound covered n))
+of_number covered n = pick (eqb n 3) (Err RecordsArea) (pick (eqb n 4) (Err DigestRecord) (Ok (record { covered = covered; digest = n })))
 
 several : (covered : ℕ) (ds : List Place) (n place size : ℕ) → 2 ≤ n
-    → of_number covered (place_or_cause (counted ds n place size)) ≡ Wrong DigestRecord
+    → of_number covered (place_or_cause (counted ds n place size)) ≡ Err DigestRecord
 unfolding counted place_or_cause of_number
 several covered [] n place size h = let d : n ≡ 1 → ⊥ = λ e. omega arith in rw (ne_eqb n 1 d)
 several covered (d ∷ ds) n place size h = several covered ds (n + 1) d.at d.size (omega arith)
@@ -39,7 +37,7 @@ unfolding counted place_or_cause of_number one_digest
 one covered [] b = refl
 one covered (d ∷ []) (Beyond.more h b) = by (eqb d.size 32)
   where
-    by : (t : Bool) → of_number covered (pick t d.at 4) ≡ pick t (Sound covered d.at) (Wrong DigestRecord)
+    by : (t : Bool) → of_number covered (pick t d.at 4) ≡ pick t (Ok (record { covered = covered; digest = d.at })) (Err DigestRecord)
     by true =
         let three : d.at ≡ 3 → ⊥ = λ e. omega arith in
         let four : d.at ≡ 4 → ⊥ = λ e. omega arith in

@@ -2,9 +2,9 @@
 ghost use Rattle.std.specs.Prelude.{◌≡◌, ◌≤◌, length};
 ghost use Rattle.causes.specs.Check.{sizes, head};
 
-use causes::{Cause, Header};
+use causes::{Cause, Sizes};
 
-fn sizes(image: &[u8]) -> Header
+fn sizes(image: &[u8]) -> Result<Sizes, Cause>
     requires { 32 ≤ length image.now }
     ensures { result ≡ sizes image.now }
 {
@@ -12,28 +12,28 @@ fn sizes(image: &[u8]) -> Header
     let header = fields::two(image, 8);
     let body = fields::four(image, 12);
     if header < 32 {
-        return Header::Bad(Cause::HeaderSizes);
+        return Err(Cause::HeaderSizes);
     }
     if image.len() < header + body + records {
-        return Header::Bad(Cause::HeaderSizes);
+        return Err(Cause::HeaderSizes);
     }
-    Header::Good {
+    Ok(Sizes {
         header,
         body,
         records,
-    }
+    })
 }
 
 // Causes 1 and 2 alone.
-pub fn head(image: &[u8]) -> Header
+pub fn head(image: &[u8]) -> Result<Sizes, Cause>
     ensures { result ≡ head image.now }
 {
     if image.len() < 32 {
-        return Header::Bad(Cause::HeaderSizes);
+        return Err(Cause::HeaderSizes);
     }
     if fields::four(image, 0) == 2532554812 {
         sizes(image)
     } else {
-        Header::Bad(Cause::HeaderMagic)
+        Err(Cause::HeaderMagic)
     }
 }

@@ -1,5 +1,5 @@
 -- Document 01, "What a power-up does": D, the answer, the plain start and the full start.
-use Rattle.std.specs.Prelude.{List, Bool, true, false, ℕ, ◌-◌, take}
+use Rattle.std.specs.Prelude.{List, Bool, true, false, ℕ, ◌-◌, take, Ok, Err}
 use Rattle.spans.specs.Choice.{pick}
 use Rattle.flash.specs.declared.Geometry.{Geometry}
 use Rattle.flash.specs.declared.End.{End}
@@ -7,9 +7,7 @@ use Rattle.flash.specs.Geometry.{data_bytes}
 use Rattle.flash.specs.Build.{Flash, valid}
 use Rattle.flash.specs.Base.{build}
 use Rattle.flash.specs.Operations.{State, start, steps}
-use Rattle.causes.specs.declared.Header.{Header}
-use Rattle.causes.specs.declared.Verdict.{Verdict}
-use Rattle.causes.specs.Check.{head, check, accepted}
+use Rattle.causes.specs.Check.{Verdict, Header, head, check, accepted}
 use Rattle.plan.specs.declared.Course.{Course}
 use Rattle.plan.specs.declared.Course.TheVariants.{Damage, FromLineThree, Resume, Test, Permanent, Revert, Clear, Nothing}
 use Rattle.plan.specs.declared.Done.{Done}
@@ -31,13 +29,13 @@ result_of a f = record { answer = a; flash = f }
 
 -- "the full start takes a choice, and if told to, runs the image check on slot 0 before booting it"; 4: "cause 3, 4 or 5 in slot 0"
 unfoldable pub judged_start : ℕ → Verdict → Outcome
-judged_start offset Verdict.Accepted = Outcome.Boot offset
-judged_start offset (Verdict.Rejected c) = Outcome.Refused (Refusal.Image c)
+judged_start offset (Ok _) = Outcome.Boot offset
+judged_start offset (Err c) = Outcome.Refused (Refusal.Image c)
 
 -- "the answer is its header size as an offset"; 3: "slot 0, at D, would meet cause 1 or 2"
 unfoldable pub started : Bool → Header → Verdict → Outcome
-started checked (Header.Bad c) v = Outcome.Refused Refusal.Header
-started checked (Header.Good header body records) v = pick checked (judged_start header v) (Outcome.Boot header)
+started checked (Err c) v = Outcome.Refused Refusal.Header
+started checked (Ok s) v = pick checked (judged_start s.header v) (Outcome.Boot s.header)
 
 -- "against the slot's m·s data bytes"
 unfoldable pub data_of : Geometry → List ℕ → List ℕ

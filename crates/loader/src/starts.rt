@@ -9,7 +9,6 @@ ghost use Rattle.plan.specs.Decision.{decide};
 ghost use Rattle.loader.specs.PowerUp.{result_of, judged_start, started, data_of, ended, carried, answered, is_damage, on_course};
 
 use answers::{Answer, Outcome, Refusal};
-use causes::{Header, Verdict};
 use flash::{End, Geometry, Run};
 use plan::{Course, Done};
 
@@ -39,8 +38,8 @@ fn slot_accepted(g: Geometry, slot: &[u8]) -> bool
     ensures { result ≡ accepted (data_of g slot.now) }
 {
     match image::check(data_of(g, slot)) {
-        Verdict::Accepted => true,
-        Verdict::Rejected(_) => false,
+        Ok(()) => true,
+        Err(_) => false,
     }
 }
 
@@ -63,8 +62,8 @@ fn checked_boot(image: &[u8], offset: usize) -> Outcome
     ensures { result ≡ judged_start offset (check image.now) }
 {
     match image::check(image) {
-        Verdict::Accepted => Outcome::Boot(offset),
-        Verdict::Rejected(cause) => Outcome::Refused(Refusal::Image(cause)),
+        Ok(()) => Outcome::Boot(offset),
+        Err(cause) => Outcome::Refused(Refusal::Image(cause)),
     }
 }
 
@@ -73,16 +72,12 @@ fn boot_data(image: &[u8], checked: bool) -> Outcome
     ensures { result ≡ started checked (head image.now) (check image.now) }
 {
     match image::header::head(image) {
-        Header::Bad(_) => Outcome::Refused(Refusal::Header),
-        Header::Good {
-            header,
-            body: _,
-            records: _,
-        } => {
+        Err(_) => Outcome::Refused(Refusal::Header),
+        Ok(sizes) => {
             if checked {
-                checked_boot(image, header)
+                checked_boot(image, sizes.header)
             } else {
-                Outcome::Boot(header)
+                Outcome::Boot(sizes.header)
             }
         }
     }

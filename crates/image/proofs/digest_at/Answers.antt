@@ -9,11 +9,11 @@ slice_bounds-stands-end c = sym (ap length c.digest.ensures ∙ length_sha256 _)
 pub returns-then-stands : goal.returns-then-stands
 returns-then-stands c =
     let a = c.args in
-    found_same a.image.now a.covered a.at _ c.digest.ensures _ c.stands.ensures
+    found_same a.image.now a.signed _ c.digest.ensures _ c.stands.ensures
     c.if-stands.true
 
 pub returns-else-stands : goal.returns-else-stands
 returns-else-stands c =
     let a = c.args in
-    found_other a.image.now a.covered a.at _ c.digest.ensures _ c.stands.ensures
+    found_other a.image.now a.signed _ c.digest.ensures _ c.stands.ensures
     c.if-stands.false

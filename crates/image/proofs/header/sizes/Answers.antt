@@ -1,6 +1,5 @@
-use Rattle.std.proofs.Common.{arith, sym, ◌∙◌}
+use Rattle.std.proofs.Common.{Ok, arith, sym, ◌∙◌}
 use Rattle.causes.specs.Header.{header_size, body_size, records_size, image_size, covered_size}
-use Rattle.causes.specs.declared.Header.TheVariants.{Good}
 use Rattle.causes.specs.CheckLaws.{sizes_small, sizes_above, sizes_good}
 use Rattle.image.proofs.header.sizes.Goals as goal
 
@@ -15,5 +14,5 @@ returns-then-image-header c = sym (sizes_above c.args.image.now (omega arith) (o
 pub returns : goal.returns
 unfolding header_size body_size records_size image_size covered_size
 returns c =
-    (λ i. Good (c.two-header.ensures.0 i) (c.four-body.ensures.0 i) (c.two-records.ensures.0 i))
+    (λ i. Ok (record { header = c.two-header.ensures.0 i; body = c.four-body.ensures.0 i; records = c.two-records.ensures.0 i }))
     ∙ sym (sizes_good c.args.image.now (omega arith) (omega arith))

@@ -2,14 +2,14 @@ use Rattle.std.proofs.Common.{ap, sym, ◌∙◌}
 use Rattle.loader.specs.PowerUp.{judged_start}
 use Rattle.loader.proofs.starts.checked_boot.Goals as goal
 
-pub returns-in-Accepted : goal.returns-in-Accepted
+pub returns-in-Ok : goal.returns-in-Ok
 unfolding judged_start
-returns-in-Accepted c =
-    ap (judged_start c.args.offset) (sym c.in-Accepted.is
+returns-in-Ok c =
+    ap (judged_start c.args.offset) (sym c.in-Ok.is
     ∙ c.check.ensures)
 
-pub returns-in-Rejected : goal.returns-in-Rejected
+pub returns-in-Err : goal.returns-in-Err
 unfolding judged_start
-returns-in-Rejected c =
-    ap (judged_start c.args.offset) (sym c.in-Rejected.is
+returns-in-Err c =
+    ap (judged_start c.args.offset) (sym c.in-Err.is
     ∙ c.check.ensures)
