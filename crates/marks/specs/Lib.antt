@@ -2,3 +2,4 @@ pub mod MagicLaws
 pub mod ReadLaws
 pub mod PlaceLaws
 pub mod RunLaws
+pub mod Parts

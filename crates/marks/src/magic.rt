@@ -4,6 +4,8 @@ ghost use Rattle.flash.specs.Base.{build};
 ghost use Rattle.flash.specs.Small.{Small};
 ghost use Rattle.trailer.specs.Trailer.{magic_at, magic_bytes, magic_of, is_good, is_no_magic};
 
+use crate::Trailer;
+use crate::part::Part;
 use flash::{Geometry, Offset};
 use trailer::Magic;
 
@@ -61,5 +63,21 @@ pub fn magic_unset(g: Geometry, t: &[u8]) -> bool
         Magic::Good => false,
         Magic::Unset => true,
         Magic::Bad => false,
+    }
+}
+
+impl<'a> Trailer<'a> {
+    pub fn magic(self) -> Magic
+        requires { Small self.g }
+        ensures { result ≡ magic_of (build self.entry.g) self.entry.bytes.now }
+    {
+        let at = Part::Magic.place(self.g).0;
+        if compare::stands(self.bytes, at, &magic_bytes()) {
+            Magic::Good
+        } else if compare::all_blank(self.bytes, at, 16) {
+            Magic::Unset
+        } else {
+            Magic::Bad
+        }
     }
 }

@@ -5,6 +5,7 @@ ghost use Rattle.flash.specs.Small.{Small};
 ghost use Rattle.trailer.specs.Trailer.{mark_at, mark_of, written, legal};
 ghost use Rattle.marks.specs.RunLaws.{fits_run};
 
+use crate::Trailer;
 use crate::mark::{has_value, is_unset, mark_in};
 use flash::{Geometry, Offset, Unit, Units};
 use trailer::Mark;
@@ -73,4 +74,55 @@ pub fn legal_run(g: Geometry, t: &[u8], c: usize) -> bool
         }
     }
     true
+}
+
+impl<'a> Trailer<'a> {
+    // Progress mark number k, in reading order.
+    pub fn progress(self, k: usize) -> Mark
+        requires small { Small self.g }
+        requires k_bound { k < 3 * self.g.sectors }
+        ensures { result ≡ mark_of (build self.entry.g) self.entry.bytes.now (mark_at (build self.entry.g) k) }
+    {
+        self.mark_in(mark_place(self.g, k))
+    }
+
+    // How many marks stand before the first that is Unset.
+    pub fn written_marks(self) -> usize
+        requires { Small self.g }
+        ensures { result ≡ written (build self.entry.g) self.entry.bytes.now 0 (3 * self.entry.g.sectors) }
+    {
+        let all = 3 * self.g.sectors;
+        for k in 0..all {
+            if self.progress(k) == Mark::Unset {
+                return k;
+            }
+        }
+        all
+    }
+
+    // Whether mark number k is as a run of c marks has it: 01, 02 and 03 in turn, then Unset.
+    fn mark_fits(self, c: usize, k: usize) -> bool
+        requires small { Small self.g }
+        requires k_bound { k < 3 * self.g.sectors }
+        ensures { result ≡ fits_run (build self.entry.g) self.entry.bytes.now c k }
+    {
+        if k < c {
+            self.progress(k) == Mark::Value(1 + (k % 3) as u8)
+        } else {
+            self.progress(k) == Mark::Unset
+        }
+    }
+
+    // Whether the marks are those of a run of c marks.
+    pub fn legal_run(self, c: usize) -> bool
+        requires { Small self.g }
+        ensures { result ≡ legal (build self.entry.g) self.entry.bytes.now c 0 (3 * self.entry.g.sectors) }
+    {
+        for k in 0..3 * self.g.sectors {
+            if !self.mark_fits(c, k) {
+                return false;
+            }
+        }
+        true
+    }
 }

@@ -2,7 +2,7 @@
 #![tactic(auto)]
 
 // The course that a power-up takes.
-#[derive(Clone, Copy)]
+#[derive(Clone, Copy, PartialEq, Eq)]
 pub enum Course {
     // marks or scratch's image ok are damaged
     Damage,
@@ -20,7 +20,7 @@ pub enum Course {
 }
 
 // What was done: the name of the list in force.
-#[derive(Clone, Copy)]
+#[derive(Clone, Copy, PartialEq, Eq)]
 pub enum Done {
     None,
     Test,

@@ -10,7 +10,7 @@ ghost use Rattle.flash.specs.Small.{Small};
 use flash::{Geometry, Sector};
 
 // What stands in the place of the magic words.
-#[derive(Clone, Copy)]
+#[derive(Clone, Copy, PartialEq, Eq)]
 pub enum Magic {
     Good,
     Unset,
@@ -18,7 +18,7 @@ pub enum Magic {
 }
 
 // What one unit says as a mark.
-#[derive(Clone, Copy)]
+#[derive(Clone, Copy, PartialEq, Eq)]
 pub enum Mark {
     Unset,
     Value(u8),

@@ -1,0 +1,12 @@
+use Rattle.std.proofs.Common.{ap, arith}
+use Rattle.flash.specs.declared.Offset.{Offset}
+use Rattle.flash.specs.Base.{base}
+use Rattle.marks.specs.PlaceLaws.{marks_fit}
+use Rattle.marks.proofs.Trailer.progress.Goals as goal
+
+pub mark_in-requires-clause-place_le_sector : goal.mark_in-requires-clause-place_le_sector
+unfolding base
+mark_in-requires-clause-place_le_sector c =
+    let a = c.args in
+    let at = ap (λ (o : Offset). o.0) c.mark_place.ensures in
+    omega (arith, at, marks_fit a.self.g a.k c.requires.small (omega arith))
