@@ -14,7 +14,7 @@ pub enum Part {
 }
 
 impl Part {
-    #[tactic(auto, unfolding(flash::specs::Base::base, crate::specs::Parts::part_at))]
+    #[tactic(auto, unfolding(flash::specs::Base::base))]
     pub fn place(self, g: Geometry) -> Offset
         requires { Small g }
         ensures { result ≡ part_at self (build g) }

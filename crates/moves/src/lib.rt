@@ -122,7 +122,7 @@ pub fn data_exchange(
         (state slot0.old slot1.old scratch.old run) }
 {
     let moved = moves_from(g, c, slot0, slot1, scratch, run);
-    let at = marks::copy_done::done_place(g);
+    let at = marks::part::Part::CopyDone.place(g);
     let last = g.last_sector();
     writes::write_mark(g, slot0, last, at, 1, moved)
 }

@@ -11,6 +11,7 @@ ghost use Rattle.trailer.specs.Trailer.{mark_at};
 ghost use Rattle.writes.specs.InArea.{mark_in, ok_in, magic_in};
 
 use flash::{Bytes, Geometry, Offset, Run, Sector, Unit, Units};
+use marks::part::Part;
 
 // The unit at an offset into sector i.
 fn unit_in(g: Geometry, i: Sector, at: Offset) -> Unit
@@ -52,7 +53,7 @@ pub fn write_ok(g: Geometry, area: &mut [u8], i: Sector, wanted: bool, run: Run)
     ensures { local area.new result ≡ ok_in g i wanted (local area.old run) }
 {
     if wanted {
-        let at = marks::image_ok::ok_place(g);
+        let at = Part::ImageOk.place(g);
         write_mark(g, area, i, at, 1, run)
     } else {
         run
@@ -64,7 +65,7 @@ pub fn write_magic(g: Geometry, area: &mut [u8], i: Sector, run: Run) -> Run
     requires i_bound { i.0 ≤ 127 }
     ensures { local area.new result ≡ magic_in g i (local area.old run) }
 {
-    let at = marks::magic::magic_place(g);
+    let at = Part::Magic.place(g);
     let u = unit_in(g, i, at);
     let bytes = marks::magic::magic_bytes();
     let units = g.units_in(Bytes(16));

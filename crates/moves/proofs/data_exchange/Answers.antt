@@ -14,8 +14,8 @@ unfolding base
 write_mark-requires c =
     let small = c.requires.small in
     let last = ap (λ (i : Sector). i.0) c.last_sector-last.ensures in
-    let at : c.done_place-at.result.0 ≡ c.args.g.sector - 32 = ap (λ (o : Offset). o.0)
-    c.done_place-at.ensures in
+    let at : c.place-at.result.0 ≡ c.args.g.sector - 32 = ap (λ (o : Offset). o.0)
+    c.place-at.ensures in
     record {
       small = small;
       i_bound = (omega (arith, last, small.many), omega (arith, at, small.room));
@@ -26,7 +26,7 @@ unfolding base
 returns c =
     let given = c.args in
     let moved = c.moves_from-moved in
-    let at = c.done_place-at in
+    let at = c.place-at in
     in_slot0 given.g _ _ _ _ at.result 1 _ _ (c.write_mark.ensures
     ∙ ap (λ (i : Sector). mark_in given.g i at.result 1 (local moved.new.slot0 moved.result))
     c.last_sector-last.ensures)

@@ -14,7 +14,7 @@ use Rattle.writes.proofs.write_magic.Goals as goal
 pub unit_in-u-requires : goal.unit_in-u-requires
 unfolding base
 unit_in-u-requires c =
-    let e : c.magic_place-at.result.0 ≡ c.args.g.sector - 16 = ap (λ (o : Offset). o.0) c.magic_place-at.ensures in
+    let e : c.place-at.result.0 ≡ c.args.g.sector - 16 = ap (λ (o : Offset). o.0) c.place-at.ensures in
     record {
       small = c.requires.small;
       i_bound = (c.requires.i_bound, omega (arith, e, c.requires.small.room));
@@ -24,8 +24,8 @@ pub write_units-requires : goal.write_units-requires
 unfolding base
 write_units-requires c =
     let given = c.args in
-    let e : c.magic_place-at.result.0 ≡ given.g.sector - 16 = ap (λ (o : Offset). o.0)
-    c.magic_place-at.ensures in
+    let e : c.place-at.result.0 ≡ given.g.sector - 16 = ap (λ (o : Offset). o.0)
+    c.place-at.ensures in
     let n : c.units_in-units.result.0 ≡ 16 / given.g.unit = ap (λ (k : Units). k.0)
     c.units_in-units.ensures in record {
       small = c.requires.small;
@@ -53,6 +53,6 @@ returns c =
     c.units_in-units.ensures
     ∙ ap₂ (λ (v : Unit) (ys : List ℕ). write_all_in given.g v n.0 (part ys 0 (bytes_in given.g n).0) l)
     (c.unit_in-u.ensures.0 ∙ ap (λ (o : Offset). unit_at given.g (after (start_of
-    given.g given.i) o)) c.magic_place-at.ensures)
+    given.g given.i) o)) c.place-at.ensures)
     c.magic_bytes-bytes.ensures
     ∙ own_bytes given.g n.0 (unit_at given.g (after (start_of given.g given.i) (magic_at (build given.g)))) magic_bytes l

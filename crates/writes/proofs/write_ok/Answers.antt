@@ -8,8 +8,8 @@ use Rattle.writes.proofs.write_ok.Goals as goal
 pub write_mark-requires : goal.write_mark-requires
 unfolding base
 write_mark-requires c =
-    let e : c.ok_place-at.result.0 ≡ c.args.g.sector - 24 = ap (λ (o : Offset). o.0)
-    c.ok_place-at.ensures in record {
+    let e : c.place-at.result.0 ≡ c.args.g.sector - 24 = ap (λ (o : Offset). o.0)
+    c.place-at.ensures in record {
       small = c.requires.small;
       i_bound = (
         c.requires.i_bound,
@@ -24,7 +24,7 @@ returns-then-wanted c =
     let given = c.args in
     c.write_mark.ensures
     ∙ ap (λ (o : Offset). mark_in given.g given.i o 1 (local given.area.now given.run))
-    c.ok_place-at.ensures
+    c.place-at.ensures
     ∙ ap (λ (b : Bool). ok_in given.g given.i b (local given.area.now given.run))
     (sym c.if-wanted.true)
 
