@@ -10,64 +10,39 @@ ghost use Rattle.fit.specs.Taken.{unit_asked, sizes_asked, lengths_asked};
 
 use flash::Geometry;
 
+#[tactic(auto, unfolding(crate::specs::Taken::unit_asked))]
 fn unit_taken(w: usize) -> bool
     ensures { result ≡ unit_asked w }
 {
-    if w == 1 {
-        return true;
-    }
-    if w == 2 {
-        return true;
-    }
-    if w == 4 {
-        return true;
-    }
-    w == 8
+    matches!(w, 1 | 2 | 4 | 8)
 }
 
 // The bounds, for a unit that is taken.
+#[tactic(auto, unfolding(crate::specs::Taken::sizes_asked, spans::specs::Choice::every))]
 fn sizes_taken(g: Geometry) -> bool
     requires { (0 < g.unit) × (g.unit ≤ 8) }
     ensures { result ≡ every (sizes_asked g) }
 {
-    if g.sector % g.unit != 0 {
-        return false;
-    }
-    if g.sector < 384 * g.unit + 32 {
-        return false;
-    }
-    if 65536 < g.sector {
-        return false;
-    }
-    if g.sectors < 2 {
-        return false;
-    }
-    g.sectors <= 128
+    g.sector % g.unit == 0
+        && 384 * g.unit + 32 <= g.sector
+        && g.sector <= 65536
+        && 2 <= g.sectors
+        && g.sectors <= 128
 }
 
+#[tactic(auto, unfolding(crate::specs::Taken::lengths_asked, spans::specs::Choice::every))]
 fn lengths_taken(g: Geometry, l0: usize, l1: usize, l2: usize) -> bool
     requires { Small g }
     ensures { result ≡ every (lengths_asked g l0 l1 l2) }
 {
     let slot = g.slot_bytes();
-    if l0 != slot.0 {
-        return false;
-    }
-    if l1 != slot.0 {
-        return false;
-    }
-    let scratch = g.scratch_bytes();
-    l2 == scratch.0
+    l0 == slot.0 && l1 == slot.0 && l2 == g.scratch_bytes().0
 }
 
 // Whether the geometry and the areas' lengths are those of document 01. Nothing is divided or multiplied before its bounds are known.
+#[tactic(auto, using(crate::specs::Taken::unit_bounds, crate::specs::Taken::small, crate::specs::Taken::in_parts))]
 pub fn taken(g: Geometry, l0: usize, l1: usize, l2: usize) -> bool
     ensures { result ≡ fits (build g) l0 l1 l2 }
 {
-    if unit_taken(g.unit) {
-        if sizes_taken(g) {
-            return lengths_taken(g, l0, l1, l2);
-        }
-    }
-    false
+    unit_taken(g.unit) && sizes_taken(g) && lengths_taken(g, l0, l1, l2)
 }

@@ -11,7 +11,7 @@ use Rattle.flash.specs.declared.Units.{Units}
 use Rattle.flash.specs.declared.Bytes.{Bytes}
 use Rattle.flash.specs.declared.Offset.{Offset}
 use Rattle.flash.specs.Small.{Small}
-use Rattle.flash.specs.Geometry.{unit_count, place_of, bytes_in, units_in, further}
+use Rattle.flash.specs.Geometry.{unit_count, byte_count, place_of, bytes_in, units_in, further}
 use Rattle.operations.specs.UnitLaws.{blank_run}
 
 -- the blocks, counted from a place and over a size that are the units'
@@ -90,3 +90,14 @@ module _ (g : Geometry) (small : Small g) (to : Unit) (reached : Units) (src : L
           let at : (to.0 + done) * w ≡ to.0 * w + front.0 = omega (arith, place, whole_units) in
           ez ∙ ap₂ (λ (l : List ℕ) (i : ℕ). put l i (part src (from + front.0) (more * w))) ey at
           ∙ copy_more xs (to.0 * w) src from front.0 (more * w) ∙ ap (λ (n : ℕ). put xs (to.0 * w) (part src from n)) sum
+
+-- the blocks are the front, and what the bounds say of it
+pub front_of : (g : Geometry) → Small g → (to : Unit) (reached : Units) (src : List ℕ) (from : ℕ) (xs : List ℕ) (blocks : ℕ) (at : Offset)
+    (size : Bytes) → at ≡ place_of g to → size ≡ bytes_in g reached
+    → blocks ≡ blanks 512 at.0 (min (min size.0 (length src - from)) (length xs - at.0) / 512) xs
+    → (blocks * 512 ≡ blanks 512 (place_of g to).0 (min (min (bytes_in g reached).0 (length src - from)) (length xs - (place_of g to).0) /
+    512) xs * 512)
+    × ((blocks * 512 ≤ length src - from) × ((units_in g (byte_count (blocks * 512))).0 ≤ reached.0))
+front_of g small to reached src from xs blocks at size ea es eb =
+    let counted = counted_from g to reached src from xs blocks at size ea es eb in
+    (counted, front_there g small to reached src from xs (byte_count (blocks * 512)) counted)

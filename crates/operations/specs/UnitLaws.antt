@@ -3,9 +3,9 @@ use Rattle.std.specs.Prelude.{◌≡◌, refl, List, Bool, true, false, ℕ, zer
 use Rattle.std.proofs.Common.{sym, ap, ap₂, ◌∙◌, zero-mul, mul-le-mul_right, arith, length-take, take-take}
 use Rattle.std.proofs.Math.Nat.{suc-min-suc}
 use Rattle.std.proofs.Math.Dec.{leb-zero, leb-suc-zero, leb-suc-suc, eqb-suc-zero}
-use Rattle.spans.specs.Bytes.{part, put, blank}
+use Rattle.spans.specs.Bytes.{part, put, blank, same}
 use Rattle.spans.specs.Choice.{pick}
-use Rattle.spans.specs.Laws.{put_nil}
+use Rattle.spans.specs.Laws.{put_nil, same_eq}
 use Rattle.spans.specs.CutOff.{put_take_join}
 use Rattle.spans.specs.Blanks.{blanks, blanks_yes, blanks_no, blanks_le, blanks_after, blanks_on}
 use Rattle.flash.specs.declared.Geometry.{Geometry}
@@ -59,6 +59,15 @@ blank_run_all g n u xs h =
     let z : n.0 ≡ n.0 + 0 = omega arith in
     ap (λ (m : ℕ). blanks g.unit (place_of g u).0 m xs) z ∙ blanks_on g.unit (place_of g u).0 n.0 0 xs h ∙ omega arith
 
+pub blank_run_same : (g : Geometry) (n : Units) (u : Unit) (xs : List ℕ)
+    → same (part xs (place_of g u).0 (bytes_in g n).0) (blank (bytes_in g n).0) ≡ true → blank_run g u n.0 xs ≡ n.0
+blank_run_same g n u xs h = blank_run_all g n u xs (same_eq _ _ h)
+
+-- none
+pub blank_run_none : (g : Geometry) (u : Unit) (xs : List ℕ) → blank_run g u 0 xs ≡ 0
+unfolding blank_run blanks
+blank_run_none g u xs = refl
+
 -- ---- the closed form
 
 -- c units written, of n that the allowance b reaches, of k
@@ -110,11 +119,15 @@ pub unerased_halts : Halted Unerased
 unfolding Halted
 unerased_halts l l' = refl
 
+pub halts : (e : End) → (e ≡ Going → ⊥) → Halted e
+halts Going h = absurd (h refl)
+halts Stopped h = stopped_halts
+halts Unerased h = unerased_halts
+
 -- after a run that has ended
-pub halted_run : (g : Geometry) (k : ℕ) (u : Unit) (bs xs : List ℕ) (r : Run) (e : End) → Halted e → r.end ≡ e
-    → write_all_in g u k bs (local xs r) ≡ local xs (record { left = r.left; end = e })
-halted_run g k u bs xs r e h told =
-    ap (λ (x : End). write_all_in g u k bs (local xs (record { left = r.left; end = x }))) told ∙ halted_writes g k u bs xs r.left e h
+pub ended_run : (g : Geometry) (k : ℕ) (u : Unit) (bs xs : List ℕ) (r : Run) → (r.end ≡ Going → ⊥)
+    → write_all_in g u k bs (local xs r) ≡ local xs r
+ended_run g k u bs xs r h = halted_writes g k u bs xs r.left r.end (halts r.end h)
 
 pub writes_at_once : (g : Geometry) (k : ℕ) (u : Unit) (bs xs : List ℕ) (b : ℕ)
     → write_all_in g u k bs (local xs (going b)) ≡ wrote g u k bs xs b (min b k) (blank_run g u (min b k) xs)

@@ -13,45 +13,35 @@ ghost use Rattle.operations.specs.UnitLaws.{blank_run};
 use flash::{Bytes, End, Geometry, Offset, Run, Sector, Unit, Units};
 
 // An erase of a sector, where the allowance and what came before let it come to pass.
+#[tactic(auto, using(crate::specs::EraseLaws::erase_late, crate::specs::EraseLaws::erase_done, crate::specs::EraseLaws::erase_ended))]
 pub fn erase(g: Geometry, area: &mut [u8], i: Sector, run: Run) -> Run
     requires small { Small g }
     requires i_bound { i.0 ≤ 128 }
     ensures { local area.new result ≡ erase_in g i (local area.old run) }
 {
-    let end = run.end;
-    match end {
-        End::Going => {
-            if run.left == 0 {
-                return Run {
-                    left: 0,
-                    end: End::Stopped,
-                };
-            }
-            let at = g.start_of(i);
-            store::fill(area, at.0, g.sector);
-            Run {
-                left: run.left - 1,
-                end: End::Going,
-            }
-        }
-        End::Stopped => Run {
-            left: run.left,
+    if run.end != End::Going {
+        return run;
+    }
+    if run.left == 0 {
+        return Run {
             end: End::Stopped,
-        },
-        End::Unerased => Run {
-            left: run.left,
-            end: End::Unerased,
-        },
+            ..run
+        };
+    }
+    store::fill(area, g.start_of(i).0, g.sector);
+    Run {
+        left: run.left - 1,
+        ..run
     }
 }
 
+#[tactic(auto, unfolding(flash::specs::Operations::erased))]
 fn is_erased(g: Geometry, area: &[u8], u: Unit) -> bool
     requires small { Small g }
     requires u_bound { u.0 ≤ 8388608 }
     ensures { result ≡ erased g u area.now }
 {
-    let at = g.place_of(u);
-    compare::all_blank(area, at.0, g.unit)
+    compare::all_blank(area, g.place_of(u).0, g.unit)
 }
 
 fn count_blank(g: Geometry, area: &[u8], u: Unit, n: Units) -> Units
@@ -59,27 +49,23 @@ fn count_blank(g: Geometry, area: &[u8], u: Unit, n: Units) -> Units
     requires n_bound { u.0 + n.0 ≤ 8388608 }
     ensures { result.0 ≡ blank_run g u n.0 area.now }
 {
-    let mut k = 0;
-    while k < n.0 {
-        if is_erased(g, area, u + Units(k)) {
-            k += 1;
-        } else {
+    for k in 0..n.0 {
+        if !is_erased(g, area, u + Units(k)) {
             return Units(k);
         }
     }
-    Units(k)
+    n
 }
 
 // How many of the n units from u on are erased, up to the first that is not. They all are but on a flash that nothing here leaves, and
 // then one fold over all their bytes tells.
+#[tactic(auto, using(crate::specs::UnitLaws::blank_run_same, crate::specs::UnitLaws::blank_run_le))]
 fn blank_units(g: Geometry, area: &[u8], u: Unit, n: Units) -> Units
     requires small { Small g }
     requires n_bound { u.0 + n.0 ≤ 8388608 }
     ensures { (result.0 ≡ blank_run g u n.0 area.now) × (result.0 ≤ n.0) }
 {
-    let at = g.place_of(u);
-    let bytes = g.bytes_in(n);
-    if compare::all_blank(area, at.0, bytes.0) {
+    if compare::all_blank(area, g.place_of(u).0, g.bytes_in(n).0) {
         n
     } else {
         count_blank(g, area, u, n)
@@ -87,14 +73,11 @@ fn blank_units(g: Geometry, area: &[u8], u: Unit, n: Units) -> Units
 }
 
 // How many units an allowance reaches.
+// stays: `as`, since no From leads from u64 to usize or back, and TryFrom's Err would want an answer that no number here has.
 fn reach(left: u64, units: Units) -> Units
     ensures { result.0 ≡ min left units.0 }
 {
-    if left < units.0 as u64 {
-        Units(left as usize)
-    } else {
-        units
-    }
+    Units(left.min(units.0 as u64) as usize)
 }
 
 // Of the units that the allowance reaches, some were written: what is left, and how it stands.
@@ -103,22 +86,16 @@ fn settled(left: u64, units: Units, reached: Units, written: Units) -> Run
     ensures { (result.left ≡ left - written.0) × (result.end ≡ pick (ltb written.0 reached.0) End.Unerased
         (pick (ltb left units.0) End.Stopped End.Going)) }
 {
-    let rest = left - written.0 as u64;
-    if written.0 < reached.0 {
-        return Run {
-            left: rest,
-            end: End::Unerased,
-        };
-    }
-    if left < units.0 as u64 {
-        return Run {
-            left: rest,
-            end: End::Stopped,
-        };
-    }
+    let end = if written.0 < reached.0 {
+        End::Unerased
+    } else if left < units.0 as u64 {
+        End::Stopped
+    } else {
+        End::Going
+    };
     Run {
-        left: rest,
-        end: End::Going,
+        left: left - written.0 as u64,
+        end,
     }
 }
 
@@ -138,9 +115,7 @@ fn write_blocks(
     ensures result_in_bounds { (result.0 ≤ length src.now - from.0) × ((units_in g result).0 ≤ reached.0) }
     ensures dst_after { dst.new ≡ put dst.old (place_of g to).0 (part src.now from.0 result.0) }
 {
-    let at = g.place_of(to);
-    let bytes = g.bytes_in(reached);
-    let blocks = store::copy_blank(src, from.0, dst, at.0, bytes.0);
+    let blocks = store::copy_blank(src, from.0, dst, g.place_of(to).0, g.bytes_in(reached).0);
     Bytes(blocks * 512)
 }
 
@@ -151,9 +126,7 @@ fn copy_all(g: Geometry, src: &[u8], from: Offset, dst: &mut [u8], to: Unit, uni
     ensures { dst.new ≡ put dst.old (place_of g to).0
         (part src.now from.0 (bytes_in g units).0) }
 {
-    let at = g.place_of(to);
-    let bytes = g.bytes_in(units);
-    store::copy(src, from.0, dst, at.0, bytes.0);
+    store::copy(src, from.0, dst, g.place_of(to).0, g.bytes_in(units).0);
 }
 
 // Of the units of dst from to on, as many as are erased up to the first that is not are given the bytes of src from from on. Behind
@@ -203,6 +176,9 @@ fn copy_units(
 }
 
 // The same after whatever came before.
+// stays: an offset beside src and a unit beside dst: they may lie behind an area's end, where `write_all_in` still says what is written
+// (`part`, `put`) and a slice from there would not be one; and what is erased is told unit by unit of the whole area.
+#[tactic(auto, using(crate::specs::UnitLaws::ended_run))]
 pub fn write_units(
     g: Geometry,
     src: &[u8],
@@ -217,16 +193,9 @@ pub fn write_units(
     ensures { local dst.new result ≡ write_all_in g to units.0 (part src.now from.0 (bytes_in g units).0)
         (local dst.old run) }
 {
-    let end = run.end;
-    match end {
-        End::Going => copy_units(g, src, from, dst, to, units, run.left),
-        End::Stopped => Run {
-            left: run.left,
-            end: End::Stopped,
-        },
-        End::Unerased => Run {
-            left: run.left,
-            end: End::Unerased,
-        },
+    if run.end == End::Going {
+        copy_units(g, src, from, dst, to, units, run.left)
+    } else {
+        run
     }
 }

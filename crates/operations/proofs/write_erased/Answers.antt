@@ -8,46 +8,6 @@ use Rattle.operations.specs.UnitLaws.{blank_run}
 use Rattle.operations.specs.FrontLaws.{both_parts}
 use Rattle.operations.proofs.write_erased.Goals as goal
 
-pub add-next-requires : goal.add-next-requires
-add-next-requires c =
-    omega (
-      arith,
-      c.requires.reached_bound,
-      c.write_blocks-front.ensures.result_in_bounds.1,
-      ap (λ (n : Units). n.0) c.units_in-done.ensures,
-    )
-
-pub overflow_sub-rest : goal.overflow_sub-rest
-overflow_sub-rest c =
-    omega (
-      arith,
-      c.write_blocks-front.ensures.result_in_bounds.1,
-      ap (λ (n : Units). n.0)
-          c.units_in-done.ensures,
-    )
-
-pub blank_units-more-requires : goal.blank_units-more-requires
-blank_units-more-requires c =
-    let pre = c.requires in
-    let done = ap (λ (n : Units). n.0) c.units_in-done.ensures in
-    let next = ap (λ (u : Unit). u.0) c.add-next.ensures in
-    let front = c.write_blocks-front.ensures.result_in_bounds.1 in
-    record {
-      small = pre.small;
-      n_bound = omega (arith, pre.reached_bound, front, done, next);
-    }
-
-pub copy_all-requires : goal.copy_all-requires
-copy_all-requires c =
-    let pre = c.requires in
-    let done = ap (λ (n : Units). n.0) c.units_in-done.ensures in
-    let next = ap (λ (u : Unit). u.0) c.add-next.ensures in
-    let front = c.write_blocks-front.ensures.result_in_bounds.1 in
-    record {
-      small = pre.small;
-      units_bound = omega (arith, pre.reached_bound, front, done, next, c.blank_units-more.ensures.1);
-    }
-
 pub returns : goal.returns
 returns c =
     let given = c.args in
