@@ -1,2 +1,3 @@
 pub mod FollowLaws
 pub mod AreaLaws
+pub mod StateLaws

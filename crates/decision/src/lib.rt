@@ -1,10 +1,10 @@
-// A, B and C, by the bytes of the trailer sectors: t0 of slot 0, t1 of slot 1, t2 of scratch.
+// A, B and C, by the trailer sectors of the three areas: t0 of slot 0, t1 of slot 1, t2 of scratch.
 #![tactic(auto)]
 
 ghost use Rattle.std.specs.Prelude.{◌≡◌};
 ghost use Rattle.flash.specs.Base.{build};
 ghost use Rattle.flash.specs.Small.{Small};
-ghost use Rattle.plan.specs.Decision.{step_a, asks};
+ghost use Rattle.plan.specs.Decision.{step_a};
 ghost use Rattle.plan.specs.Asked.{flash_of, asked_by};
 
 pub mod course;
@@ -14,34 +14,21 @@ mod states;
 use crate::resumption::step_b;
 use crate::states::state_c;
 use flash::Geometry;
-use marks::image_ok::{ok_set, ok_unset};
-use marks::magic::magic_good;
+use marks::Trailer;
 use plan::Course;
-use trailer::{scratch_trailer, slot_trailer};
+use trailer::{Magic, Mark};
 
-fn step_a(g: Geometry, t2: &[u8]) -> Course
-    requires { Small g }
-    ensures { result ≡ step_a (build g) t2.now }
+fn step_a(t2: Trailer) -> Course
+    requires { Small t2.g }
+    ensures { result ≡ step_a (build t2.entry.g) t2.entry.bytes.now }
 {
-    if ok_unset(g, t2) {
-        return Course::FromLineThree(false);
-    }
-    if ok_set(g, t2) {
+    let ok = t2.image_ok();
+    if ok == Mark::Unset {
+        Course::FromLineThree(false)
+    } else if ok == Mark::Value(1) {
         Course::FromLineThree(true)
     } else {
         Course::Damage
-    }
-}
-
-// Scratch is asked before slot 0, whose trailer may be erased and half written while scratch's magic is Good.
-fn asks_trailers(g: Geometry, t0: &[u8], t1: &[u8], t2: &[u8]) -> Course
-    requires { Small g }
-    ensures { result ≡ asks (build g) t0.now t1.now t2.now }
-{
-    if magic_good(g, t2) {
-        step_a(g, t2)
-    } else {
-        step_b(g, t0, state_c(g, t0, t1))
     }
 }
 
@@ -50,8 +37,13 @@ pub fn asks(g: Geometry, slot0: &[u8], slot1: &[u8], scratch: &[u8]) -> Course
     requires { Small g }
     ensures { result ≡ asked_by g (flash_of slot0.now slot1.now scratch.now) }
 {
-    let t0 = slot_trailer(g, slot0);
-    let t1 = slot_trailer(g, slot1);
-    let t2 = scratch_trailer(g, scratch);
-    asks_trailers(g, t0, t1, t2)
+    let t0 = Trailer::of_slot(g, slot0);
+    let t1 = Trailer::of_slot(g, slot1);
+    let t2 = Trailer::of_scratch(g, scratch);
+    // Scratch is asked before slot 0, whose trailer may be erased and half written while scratch's magic is Good.
+    if t2.magic() == Magic::Good {
+        step_a(t2)
+    } else {
+        step_b(t0, state_c(t0, t1))
+    }
 }

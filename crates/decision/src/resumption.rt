@@ -1,4 +1,4 @@
-// B: whether an exchange is continued, by the bytes t0 of slot 0's trailer sector.
+// B: whether an exchange is continued, by slot 0's trailer sector t0.
 ghost use Rattle.std.specs.Prelude.{◌≡◌};
 ghost use Rattle.flash.specs.Base.{build};
 ghost use Rattle.flash.specs.Small.{Small};
@@ -7,59 +7,48 @@ ghost use Rattle.plan.specs.DecisionLaws.{marks_read};
 ghost use Rattle.decision.specs.FollowLaws.{followed};
 
 use flash::Geometry;
-use marks::copy_done::done_unset;
-use marks::magic::magic_good;
-use marks::progress::{legal_run, written_marks};
+use marks::Trailer;
 use plan::Course;
+use trailer::{Magic, Mark};
 
 // B's answer for a run of c marks.
 fn follow(g: Geometry, c: usize, otherwise: Course) -> Course
     requires { Small g }
     ensures { result ≡ followed (build g) c otherwise }
 {
-    if c == 0 {
-        return otherwise;
-    }
-    if c < 3 {
-        return Course::Damage;
-    }
-    if c <= 3 * g.sectors {
-        Course::Resume(c)
-    } else {
-        Course::Damage
+    match c {
+        0 => otherwise,
+        3.. if c <= 3 * g.sectors => Course::Resume(c),
+        _ => Course::Damage,
     }
 }
 
-fn continue_run(g: Geometry, t0: &[u8], c: usize, otherwise: Course) -> Course
-    requires { Small g }
-    ensures { result ≡ continue (build g) t0.now c otherwise }
+fn continue_run(t0: Trailer, c: usize, otherwise: Course) -> Course
+    requires { Small t0.g }
+    ensures { result ≡ continue (build t0.entry.g) t0.entry.bytes.now c otherwise }
 {
-    if legal_run(g, t0, c) {
-        follow(g, c, otherwise)
+    if t0.legal_run(c) {
+        follow(t0.g, c, otherwise)
     } else {
         Course::Damage
     }
 }
 
 // Whether B reads the marks.
-fn unfinished(g: Geometry, t0: &[u8]) -> bool
-    requires { Small g }
-    ensures { result ≡ marks_read (build g) t0.now }
+fn is_unfinished(t0: Trailer) -> bool
+    requires { Small t0.g }
+    ensures { result ≡ marks_read (build t0.entry.g) t0.entry.bytes.now }
 {
-    if magic_good(g, t0) {
-        done_unset(g, t0)
-    } else {
-        false
-    }
+    t0.magic() == Magic::Good && t0.copy_done() == Mark::Unset
 }
 
 // otherwise is the course of C, for where no exchange is under way.
-pub fn step_b(g: Geometry, t0: &[u8], otherwise: Course) -> Course
-    requires { Small g }
-    ensures { result ≡ step_b (build g) t0.now otherwise }
+pub fn step_b(t0: Trailer, otherwise: Course) -> Course
+    requires { Small t0.g }
+    ensures { result ≡ step_b (build t0.entry.g) t0.entry.bytes.now otherwise }
 {
-    if unfinished(g, t0) {
-        continue_run(g, t0, written_marks(g, t0), otherwise)
+    if is_unfinished(t0) {
+        continue_run(t0, t0.written_marks(), otherwise)
     } else {
         otherwise
     }

@@ -1,70 +1,33 @@
-// C: the states of document 003, by the bytes of the trailer sectors: t0 of slot 0, t1 of slot 1.
+// C: the states of document 003, by the trailer sectors t0 of slot 0 and t1 of slot 1.
 ghost use Rattle.std.specs.Prelude.{◌≡◌};
 ghost use Rattle.flash.specs.Base.{build};
 ghost use Rattle.flash.specs.Small.{Small};
 ghost use Rattle.plan.specs.Decision.{state_c};
-ghost use Rattle.plan.specs.DecisionLaws.{test_due, permanent_due, revert_due};
+ghost use Rattle.decision.specs.StateLaws.{on_trial};
 
-use flash::Geometry;
-use marks::copy_done::done_set;
-use marks::image_ok::{ok_set, ok_unset};
-use marks::magic::{magic_good, magic_unset};
+use marks::Trailer;
 use plan::Course;
+use trailer::{Magic, Mark};
 
-// State I.
-fn for_test(g: Geometry, t1: &[u8]) -> bool
-    requires { Small g }
-    ensures { result ≡ test_due (build g) t1.now }
+// Whether the firmware in slot 0 is there on trial, and nobody has confirmed it.
+fn is_on_trial(t0: Trailer) -> bool
+    requires { Small t0.g }
+    ensures { result ≡ on_trial (build t0.entry.g) t0.entry.bytes.now }
 {
-    if magic_good(g, t1) {
-        ok_unset(g, t1)
-    } else {
-        false
-    }
+    t0.magic() == Magic::Good && t0.image_ok() == Mark::Unset && t0.copy_done() == Mark::Value(1)
 }
 
-// State II.
-fn for_good(g: Geometry, t1: &[u8]) -> bool
-    requires { Small g }
-    ensures { result ≡ permanent_due (build g) t1.now }
+pub fn state_c(t0: Trailer, t1: Trailer) -> Course
+    requires small { Small t0.g }
+    requires same { t1.g ≡ t0.g }
+    ensures { result ≡ state_c (build t0.entry.g) t0.entry.bytes.now t1.entry.bytes.now }
 {
-    if magic_good(g, t1) {
-        ok_set(g, t1)
-    } else {
-        false
-    }
-}
-
-// State III.
-fn for_revert(g: Geometry, t0: &[u8], t1: &[u8]) -> bool
-    requires { Small g }
-    ensures { result ≡ revert_due (build g) t0.now t1.now }
-{
-    if magic_good(g, t0) {
-        if ok_unset(g, t0) {
-            if done_set(g, t0) {
-                return magic_unset(g, t1);
-            }
-            return false;
-        }
-        return false;
-    }
-    false
-}
-
-pub fn state_c(g: Geometry, t0: &[u8], t1: &[u8]) -> Course
-    requires { Small g }
-    ensures { result ≡ state_c (build g) t0.now t1.now }
-{
-    if for_test(g, t1) {
-        return Course::Test;
-    }
-    if for_good(g, t1) {
-        return Course::Permanent;
-    }
-    if for_revert(g, t0, t1) {
-        Course::Revert
-    } else {
-        Course::Nothing
+    let ok = t1.image_ok();
+    match t1.magic() {
+        // State I, state II, state III.
+        Magic::Good if ok == Mark::Unset => Course::Test,
+        Magic::Good if ok == Mark::Value(1) => Course::Permanent,
+        Magic::Unset if is_on_trial(t0) => Course::Revert,
+        _ => Course::Nothing,
     }
 }

@@ -8,11 +8,11 @@ unfolding base
 returns-then-legal_run c =
     let a = c.args in
     let legal = sym c.legal_run.ensures ∙ c.if-legal_run.true in
-    c.follow.ensures ∙ sym (continue_legal (build a.g) a.t0.now a.c a.otherwise legal)
+    c.follow.ensures ∙ sym (continue_legal (build a.t0.g) a.t0.bytes.now a.c a.otherwise legal)
 
 pub returns-else-legal_run : goal.returns-else-legal_run
 unfolding base
 returns-else-legal_run c =
     let a = c.args in
     let illegal = sym c.legal_run.ensures ∙ c.if-legal_run.false in
-    sym (continue_damage (build a.g) a.t0.now a.c a.otherwise illegal)
+    sym (continue_damage (build a.t0.g) a.t0.bytes.now a.c a.otherwise illegal)

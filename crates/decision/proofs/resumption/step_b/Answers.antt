@@ -3,15 +3,15 @@ use Rattle.flash.specs.Base.{base, build}
 use Rattle.plan.specs.Decision.{continue, step_b}
 use Rattle.decision.proofs.resumption.step_b.Goals as goal
 
-pub returns-then-unfinished : goal.returns-then-unfinished
+pub returns-then-is_unfinished : goal.returns-then-is_unfinished
 unfolding step_b base
-returns-then-unfinished c =
+returns-then-is_unfinished c =
     let a = c.args in
-    let unfinished-yet = sym c.unfinished.ensures ∙ c.if-unfinished.true in
-    rw unfinished-yet
+    let unfinished = sym c.is_unfinished.ensures ∙ c.if-is_unfinished.true in
+    rw unfinished
     (c.continue_run.ensures
-    ∙ ap (λ (n : ℕ). continue (build a.g) a.t0.now n a.otherwise) c.written_marks.ensures)
+    ∙ ap (λ (n : ℕ). continue (build a.t0.g) a.t0.bytes.now n a.otherwise) c.written_marks.ensures)
 
-pub returns-else-unfinished : goal.returns-else-unfinished
+pub returns-else-is_unfinished : goal.returns-else-is_unfinished
 unfolding step_b
-returns-else-unfinished c = rw (sym c.unfinished.ensures ∙ c.if-unfinished.false)
+returns-else-is_unfinished c = rw (sym c.is_unfinished.ensures ∙ c.if-is_unfinished.false)
