@@ -53,6 +53,11 @@ filling_next {W₀} {W} {t} F h u e =
           ∙ schedule_next (take 16 W₀) t F.from;
     })
 
+-- the next word stored, as the code stores it
+pub filling_store : {W₀ W : List ℕ} {t w : ℕ} → Filling W₀ W t → t < 64 → w ≡ next W t → Filling W₀ (slice_set W t w) (t + 1)
+unfolding grown
+filling_store F h e = rw e (filling_next F h _ refl)
+
 pub filling_four : {W₀ W W' : List ℕ} {t : ℕ} → Filling W₀ W t → t + 4 ≤ 64
     → W' ≡ grown (grown (grown (grown W t) (t + 1)) (t + 2)) (t + 3) → Filling W₀ W' (t + 4)
 filling_four {t = t} F h e =

@@ -24,7 +24,7 @@ unfolding rounds
 rounds_none W v = refl
 
 module _ (W : List ℕ) (v₀ : Eight) where
-  rounds_next : (v : Eight) (t u : ℕ) → u ≡ t + 1 → v ≡ rounds W v₀ t → turn W v t ≡ rounds W v₀ u
+  pub rounds_next : (v : Eight) (t u : ℕ) → u ≡ t + 1 → v ≡ rounds W v₀ t → turn W v t ≡ rounds W v₀ u
   unfolding turn rounds
   rounds_next v t u e h = rw (e, add-one) (ap (λ (x : Eight). round x (slice_index K t) (slice_index W t)) h)
 

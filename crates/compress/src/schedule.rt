@@ -1,38 +1,37 @@
 // The message schedule: 6.2.2, step 1.
-ghost use Rattle.std.specs.Prelude.{◌≡◌, ◌+◌, ◌<◌, ◌≤◌, length, take, drop};
+ghost use Rattle.std.specs.Prelude.{◌≡◌, List, ℕ, ◌+◌, ◌<◌, ◌≤◌, length, take, drop};
 ghost use Rattle.spans.specs.Words.{words};
-ghost use Rattle.fips.specs.Fips.{σ₀, σ₁, next, schedule};
-ghost use Rattle.compress.specs.Grown.{grown};
+ghost use Rattle.fips.specs.Fips.{◌⊕◌, ROTR, SHR, next, schedule};
+ghost use Rattle.compress.specs.Grown.{Filling};
 
-fn small0(x: u32) -> u32
-    ensures { result ≡ σ₀ x }
+// σ₀ and σ₁: x rotated by A and by B, and shifted by C.
+fn small_sigma<const A: u32, const B: u32, const C: u32>(x: u32) -> u32
+    requires a { (0 < A) × (A < 32) }
+    requires b { (0 < B) × (B < 32) }
+    requires c { C < 32 }
+    ensures { result ≡ ROTR A x ⊕ ROTR B x ⊕ SHR C x }
 {
-    ((x >> 7) | (x << 25)) ^ ((x >> 18) | (x << 14)) ^ (x >> 3)
-}
-
-fn small1(x: u32) -> u32
-    ensures { result ≡ σ₁ x }
-{
-    ((x >> 17) | (x << 15)) ^ ((x >> 19) | (x << 13)) ^ (x >> 10)
+    x.rotate_right(A) ^ x.rotate_right(B) ^ (x >> C)
 }
 
 fn next_word(w: &[u32; 64], t: usize) -> u32
     requires { (16 ≤ t) × (t < 64) }
     ensures { result ≡ next w.now t }
 {
-    let near = std::num::wrapping_add_u32(small1(w[t - 2]), w[t - 7]);
-    let far = std::num::wrapping_add_u32(near, small0(w[t - 15]));
-    std::num::wrapping_add_u32(far, w[t - 16])
+    small_sigma::<17, 19, 10>(w[t - 2])
+        .wrapping_add(w[t - 7])
+        .wrapping_add(small_sigma::<7, 18, 3>(w[t - 15]))
+        .wrapping_add(w[t - 16])
 }
 
+// The words for t to t + 3. The compiler takes this loop apart: one loop of 48 words takes longer, and so do eight words here.
 fn four_words(w: &mut [u32; 64], t: usize)
     requires { (16 ≤ t) × (t + 4 ≤ 64) }
-    ensures { w.new ≡ grown (grown (grown (grown w.old t) (t + 1)) (t + 2)) (t + 3) }
+    ensures { (first : List ℕ) → Filling first w.old t → Filling first w.new (t + 4) }
 {
-    w[t] = next_word(w, t);
-    w[t + 1] = next_word(w, t + 1);
-    w[t + 2] = next_word(w, t + 2);
-    w[t + 3] = next_word(w, t + 3);
+    for u in t..t + 4 {
+        w[u] = next_word(w, u);
+    }
 }
 
 // The words from the seventeenth on, from the sixteen that stand first.
@@ -40,10 +39,8 @@ fn extend(w: &mut [u32; 64])
     requires { length w.old ≡ 64 }
     ensures { (w.new ≡ schedule (take 16 w.old) 48) × (length w.new ≡ 64) }
 {
-    let mut t = 16;
-    while t < 64 {
+    for t in (16..64).step_by(4) {
         four_words(w, t);
-        t += 4;
     }
 }
 
@@ -52,10 +49,8 @@ fn load(bytes: &[u8], at: usize, w: &mut [u32; 64])
     requires { (at + 64 ≤ length bytes.now) × (length w.old ≡ 64) }
     ensures { (take 16 w.new ≡ words 4 16 (drop at bytes.now)) × (length w.new ≡ 64) }
 {
-    let mut i = 0;
-    while i < 16 {
-        w[i] = fips::word(bytes, at + 4 * i);
-        i += 1;
+    for (i, word) in w[..16].iter_mut().enumerate() {
+        *word = fips::word(bytes, at + 4 * i);
     }
 }
 

@@ -21,15 +21,16 @@ pub struct Work {
 fn first(v: Work, k: u32, w: u32) -> u32
     ensures { result ≡ T₁ (eight v) k w }
 {
-    let with_e = std::num::wrapping_add_u32(v.h, functions::big1(v.e));
-    let with_f = std::num::wrapping_add_u32(with_e, functions::ch(v.e, v.f, v.g));
-    std::num::wrapping_add_u32(std::num::wrapping_add_u32(with_f, k), w)
+    v.h.wrapping_add(functions::big_sigma::<6, 11, 25>(v.e))
+        .wrapping_add(functions::ch(v.e, v.f, v.g))
+        .wrapping_add(k)
+        .wrapping_add(w)
 }
 
 fn second(v: Work) -> u32
     ensures { result ≡ T₂ (eight v) }
 {
-    std::num::wrapping_add_u32(functions::big0(v.a), functions::maj(v.a, v.b, v.c))
+    functions::big_sigma::<2, 13, 22>(v.a).wrapping_add(functions::maj(v.a, v.b, v.c))
 }
 
 // The turn with K_t and W_t.
@@ -39,11 +40,11 @@ pub fn one(v: Work, k: u32, w: u32) -> Work
     let t1 = first(v, k, w);
     let t2 = second(v);
     Work {
-        a: std::num::wrapping_add_u32(t1, t2),
+        a: t1.wrapping_add(t2),
         b: v.a,
         c: v.b,
         d: v.c,
-        e: std::num::wrapping_add_u32(v.d, t1),
+        e: v.d.wrapping_add(t1),
         f: v.e,
         g: v.f,
         h: v.g,

@@ -1,6 +1,6 @@
 // The functions of 4.1.2 that a turn takes.
-ghost use Rattle.std.specs.Prelude.{◌≡◌};
-ghost use Rattle.fips.specs.Fips.{Ch, Maj, Σ₀, Σ₁};
+ghost use Rattle.std.specs.Prelude.{◌≡◌, ◌<◌};
+ghost use Rattle.fips.specs.Fips.{◌⊕◌, ROTR, Ch, Maj};
 
 // Without the complement: two operations fewer in each of the 64 turns.
 pub fn ch(x: u32, y: u32, z: u32) -> u32
@@ -15,14 +15,12 @@ pub fn maj(x: u32, y: u32, z: u32) -> u32
     (x & y) ^ (x & z) ^ (y & z)
 }
 
-pub fn big0(x: u32) -> u32
-    ensures { result ≡ Σ₀ x }
+// Σ₀ and Σ₁: x rotated by each of the three numbers.
+pub fn big_sigma<const A: u32, const B: u32, const C: u32>(x: u32) -> u32
+    requires a { (0 < A) × (A < 32) }
+    requires b { (0 < B) × (B < 32) }
+    requires c { (0 < C) × (C < 32) }
+    ensures { result ≡ ROTR A x ⊕ ROTR B x ⊕ ROTR C x }
 {
-    ((x >> 2) | (x << 30)) ^ ((x >> 13) | (x << 19)) ^ ((x >> 22) | (x << 10))
-}
-
-pub fn big1(x: u32) -> u32
-    ensures { result ≡ Σ₁ x }
-{
-    ((x >> 6) | (x << 26)) ^ ((x >> 11) | (x << 21)) ^ ((x >> 25) | (x << 7))
+    x.rotate_right(A) ^ x.rotate_right(B) ^ x.rotate_right(C)
 }

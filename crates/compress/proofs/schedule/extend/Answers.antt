@@ -1,12 +1,12 @@
 use Rattle.std.proofs.Common.{arith, refl}
-use Rattle.compress.specs.Grown.{filling_none, filling_four, filled}
+use Rattle.compress.specs.Grown.{filling_none, filled}
 use Rattle.compress.proofs.schedule.extend.Goals as goal
 
 pub loop-t-init : goal.loop-t-init
 loop-t-init c = (filling_none _ c.requires, refl)
 
 pub loop-t-preserved : goal.loop-t-preserved
-loop-t-preserved c = (filling_four c.loop-t.invariant.0 (omega arith) c.four_words.ensures, omega arith)
+loop-t-preserved c = (c.four_words.ensures _ c.loop-t.invariant.0, omega arith)
 
 pub returns : goal.returns
 returns c = (filled c.loop-t.invariant.0 (omega arith), c.loop-t.invariant.0.long)

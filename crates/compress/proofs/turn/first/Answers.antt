@@ -1,7 +1,7 @@
 use Rattle.compress.specs.Variables.{eight}
-use Rattle.fips.specs.Fips.{T₁}
+use Rattle.fips.specs.Fips.{Σ₁, T₁}
 use Rattle.compress.proofs.turn.first.Goals as goal
 
 pub returns : goal.returns
-unfolding T₁ eight
+unfolding T₁ Σ₁ eight
 returns c = cc

@@ -1,7 +1,7 @@
 use Rattle.compress.specs.Variables.{eight}
-use Rattle.fips.specs.Fips.{T₂}
+use Rattle.fips.specs.Fips.{Σ₀, T₂}
 use Rattle.compress.proofs.turn.second.Goals as goal
 
 pub returns : goal.returns
-unfolding T₂ eight
+unfolding T₂ Σ₀ eight
 returns c = cc
