@@ -1,12 +1,12 @@
 -- The hash value after some blocks, taken block by block and part by part.
 use Rattle.std.specs.Prelude.{◌≡◌, refl, List, ◌∷◌, ◌++◌, ℕ, zero, suc, ◌+◌, ◌-◌, ◌*◌, ◌/◌, ◌≤◌, length, take, drop, replicate}
-use Rattle.std.proofs.Common.{sym, ap, ◌∙◌, add-one, add-zero, add-suc, arith, length-append, drop-drop}
+use Rattle.std.proofs.Common.{sym, ap, ◌∙◌, add-one, add-zero, add-suc, arith, length-append, length-drop, drop-drop, drop_at, take_at, take_all}
 use Rattle.std.proofs.lemmas.List.{take-append-le}
 use Rattle.spans.specs.Runs.{drop_take}
 use Rattle.spans.specs.Words.{words, bytes_of}
 use Rattle.spans.specs.WordLaws.{words_take}
 use Rattle.fips.specs.Fips.{Eight, M, zeros, pad, H₀, compress, hash, result, sha256}
-use Rattle.sha256.specs.Padding.{Ending}
+use Rattle.sha256.specs.Padding.{Ending, blocks_of_pad}
 
 -- one more block
 pub hash_next : (H : Eight) (p : List ℕ) (i : ℕ) (v r : Eight) → v ≡ hash H p i
@@ -53,7 +53,7 @@ hash_pad m tail full count h l e =
     ∙ ap (λ (v : Eight). hash v (drop (64 * full) (pad m)) count) (hash_same H₀ m (pad m) full front)
     ∙ sym (hash_split H₀ (pad m) full count) ∙ ap (hash H₀ (pad m)) n
 
--- the digest, as the code goes: the message's own blocks, the last ones, the result
+-- the digest: the message's own blocks, the last ones, the result
 pub digest_of : (m tail : List ℕ) (full count : ℕ) (first body last : Eight) (out : List ℕ) → 64 * full ≤ length m
     → Ending m (64 * full) count tail → first ≡ H₀ → body ≡ hash first m full → last ≡ hash body tail count → out ≡ result last
     → out ≡ sha256 m
@@ -61,3 +61,29 @@ unfolding sha256
 digest_of m tail full count first body last out h e p q r s =
     s ∙ ap result (r ∙ ap (λ (v : Eight). hash v tail count) (q ∙ ap (λ (v : Eight). hash v m full) p)
     ∙ hash_pad m tail full count h e.whole e.is)
+
+-- the first block, then the others
+pub hash_block : (H : Eight) (p b r : List ℕ) → p ≡ b ++ r → length b ≡ 64
+    → hash (compress H (words 4 16 b)) r (length r / 64) ≡ hash H p (length p / 64)
+unfolding hash M
+hash_block H p b r e l =
+    let n : ℕ = length r / 64 in
+    let long : length p ≡ 64 + length r = ap length e ∙ length-append b r ∙ ap (λ (k : ℕ). k + length r) l in
+    let front : words 4 16 p ≡ words 4 16 b = sym (words_take 4 16 64 p (omega arith)) ∙ ap (words 4 16) (ap (take 64) e ∙ take_at b r 64 l) in
+    let behind : drop 64 p ≡ r = ap (drop 64) e ∙ drop_at b r 64 l in
+    sym
+    (ap (hash H p) (omega arith) ∙ hash_split H p 1 n
+    ∙ (λ i. hash (compress H (front i)) (behind i) n))
+
+-- the digest, as the code goes: the message's own blocks, the last ones, the result
+pub digest_is : (m last : List ℕ) (first body after : Eight) (out : List ℕ) → last ≡ drop (64 * (length m / 64)) (pad m) → first ≡ H₀
+    → body ≡ hash first m (length m / 64) → after ≡ hash body last (length last / 64) → out ≡ result after → out ≡ sha256 m
+unfolding sha256
+digest_is m last first body after out e p q r s =
+    let full : ℕ = length m / 64 in
+    let count : ℕ = length last / 64 in
+    let long : length last ≡ length (pad m) - 64 * full = ap length e ∙ length-drop (64 * full) (pad m) in
+    let whole : length (pad m) ≡ 64 * full + 64 * count = omega (arith, blocks_of_pad m) in
+    let cut : take (64 * count) last ≡ last = take_all (64 * count) last (omega arith) in
+    s ∙ ap result (r ∙ ap (λ (v : Eight). hash v last count) (q ∙ ap (λ (v : Eight). hash v m full) p)
+    ∙ hash_pad m last full count (omega arith) whole (cut ∙ e))

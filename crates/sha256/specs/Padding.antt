@@ -1,7 +1,7 @@
 -- The end of the padded message (5.1.1), as it stands in an array of two blocks.
 use Rattle.std.specs.Prelude.{◌≡◌, take, set}
-use Rattle.std.proofs.Math.Path.{sym, ap}
-use Rattle.std.proofs.Common.{ap₂, ◌∙◌, mul_comm, arith, length-set, take_all}
+use Rattle.std.proofs.Math.Path.{sym, ap, refl}
+use Rattle.std.proofs.Common.{ap₂, ◌∙◌, mul_comm, div-one, arith, length-set, take_all}
 use mathlib.Core.List.{List, [], ◌∷◌, ◌++◌, append_assoc}
 use Prim.Native.Nat.{ℕ, ◌+◌, ◌-◌, ◌*◌, ◌/◌, ◌%◌, ◌^◌, ◌≤◌, ◌<◌}
 use Rattle.std.proofs.Math.ListN.{length, drop, replicate, length-append, length-replicate, length-drop}
@@ -12,6 +12,10 @@ use Rattle.spans.specs.Runs.{put_run, take_put, take_replicate}
 use Rattle.spans.specs.Words.{bytes_of}
 use Rattle.spans.specs.WordLaws.{length_bytes_of, bytes_of_mod, bytes_of_split}
 use Rattle.fips.specs.Fips.{zeros, pad}
+use Rattle.fips.specs.Laws.{zeros_solve}
+use Rattle.fips.specs.Writing.{put_part}
+use Rattle.std.specs.Int.{w64, to_be_bytes}
+use borrow.Rule.Slice.PartMut.{put_mid}
 
 -- the length field, written as two words
 pub put_length : (xs : List ℕ) (at size hi lo : ℕ) → hi ≡ size * 2 ^ 3 % 2 ^ 64 / 2 ^ 32 % 2 ^ 32
@@ -25,6 +29,18 @@ put_length xs at size hi lo h l =
     ∙ sym (bytes_of_split 4 4 bits) ∙ bytes_of_mod 8 (size * 8) 64 (omega arith) ∙ ap (bytes_of 8) (mul_comm size 8) in
     ap (λ (n : ℕ). put (put xs at (bytes_of 4 hi)) (at + n) (bytes_of 4 lo)) (sym (length_bytes_of 4 hi))
     ∙ put_join xs at (bytes_of 4 hi) (bytes_of 4 lo) ∙ ap (put xs at) e
+
+eight_bytes : (x : ℕ) → to_be_bytes w64 x ≡ bytes_of 8 x
+unfolding bytes_of
+eight_bytes x = rw div-one refl
+
+-- the length field, written as the library's eight bytes
+pub put_bits : (xs : List ℕ) (at size : ℕ) (ys : List ℕ) → ys ≡ to_be_bytes w64 (size * 8 % 2 ^ 64) → at + 8 ≤ length xs
+    → put_mid at (at + 8 - at) xs ys ≡ put xs at (bytes_of 8 (8 * size))
+put_bits xs at size ys e h =
+    let l : length ys ≡ 8 = ap length e in
+    let b : ys ≡ bytes_of 8 (8 * size) = e ∙ eight_bytes (size * 8 % 2 ^ 64) ∙ bytes_of_mod 8 (size * 8) 64 (omega arith) ∙ ap (bytes_of 8) (mul_comm size 8) in
+    put_part xs at (at + 8 - at) ys (omega arith) (omega arith) ∙ ap (put xs at) b
 
 module _ (m : List ℕ) (from rest count : ℕ) (whole : from + rest ≡ length m) (at_block : from % 64 ≡ 0) (few : rest < 64)
     (count_is : count ≡ (rest + 72) / 64) where
@@ -86,6 +102,13 @@ module _ (m : List ℕ) (from rest count : ℕ) (whole : from + rest ≡ length 
         ∙ take_put (begun ++ replicate (n - length begun) 0) (64 * count - 8) L (64 * count) e l
         ∙ ap (λ (x : List ℕ). x ++ L) take_begun ∙ sym drop_pad
 
+-- the padded message is whole blocks, no fewer than the message has
+pub blocks_of_pad : (m : List ℕ) → (length (pad m) % 64 ≡ 0) × (length m ≤ length (pad m))
+unfolding pad
+blocks_of_pad m =
+    let long : length (pad m) ≡ length m + (1 + zeros (length m)) + 8 = simp (length-append, length-replicate, length_bytes_of) (omega arith) in
+    (omega (arith, zeros_solve (length m)), omega arith)
+
 -- tail begins with the count blocks that the padded message has after from bytes
 pub record Ending (m : List ℕ) (from count : ℕ) (tail : List ℕ) : Type 0 where
   pub long : length tail ≡ 128
@@ -109,3 +132,15 @@ ending_of m from rest count tail₀ tail₁ tail₂ at_block all few count_is e�
       ∙ ap (λ (t : List ℕ). put t 0 (part m from rest)) e₀)))
       ∙ ending m from rest count all at_block few count_is 128 (omega arith);
 }
+
+-- the same of the blocks alone, as the code cuts them off
+pub last_blocks : (m : List ℕ) (rest end : ℕ) (tail₀ tail₁ tail₂ : List ℕ) → rest ≡ length m % 64 → end ≡ (rest + 72) / 64 * 64
+    → tail₀ ≡ replicate 128 0 → tail₁ ≡ put tail₀ 0 (part m (length m - rest) rest)
+    → tail₂ ≡ put (set tail₁ rest 128) (end - 8) (bytes_of 8 (8 * length m)) → take end tail₂ ≡ drop (64 * (length m / 64)) (pad m)
+last_blocks m rest end tail₀ tail₁ tail₂ r e e₀ e₁ e₂ =
+    let count : ℕ = (rest + 72) / 64 in
+    let k : end ≡ 64 * count = omega arith in
+    let f : length m - rest ≡ 64 * (length m / 64) = omega arith in
+    let at_end = ap (λ (n : ℕ). put (set tail₁ rest 128) (n - 8) (bytes_of 8 (8 * length m))) k in
+    let it = ending_of m (length m - rest) rest count tail₀ tail₁ tail₂ (omega arith) (omega arith) (omega arith) refl e₀ e₁ (e₂ ∙ at_end) in
+    ap (λ (n : ℕ). take n tail₂) k ∙ it.is ∙ ap (λ (n : ℕ). drop n (pad m)) f

@@ -4,9 +4,7 @@
 mod blocks;
 mod padding;
 
-ghost use Rattle.std.specs.Prelude.{◌≡◌, ◌++◌, ◌+◌, ◌≤◌, length};
-ghost use Rattle.spans.specs.Bytes.{put};
-ghost use Rattle.spans.specs.Words.{bytes_of};
+ghost use Rattle.std.specs.Prelude.{◌≡◌};
 ghost use Rattle.fips.specs.Fips.{H₀, sha256};
 ghost use Rattle.fips.specs.Fips as Fips;
 ghost use Rattle.compress.specs.Variables.{eight};
@@ -28,22 +26,14 @@ fn start() -> Work
     }
 }
 
-fn put_four(area: &mut [u8], at: usize, a: u32, b: u32, c: u32, d: u32)
-    requires { at + 16 ≤ length area.old }
-    ensures { area.new ≡ put area.old at (bytes_of 4 a ++ bytes_of 4 b ++ bytes_of 4 c ++ bytes_of 4 d) }
-{
-    fips::put_word(area, at, a);
-    fips::put_word(area, at + 4, b);
-    fips::put_word(area, at + 8, c);
-    fips::put_word(area, at + 12, d);
-}
-
 fn result_of(h: Work) -> [u8; 32]
     ensures { result ≡ Fips.result (eight h) }
 {
+    let words = [h.a, h.b, h.c, h.d, h.e, h.f, h.g, h.h];
     let mut out = [0u8; 32];
-    put_four(&mut out, 0, h.a, h.b, h.c, h.d);
-    put_four(&mut out, 16, h.e, h.f, h.g, h.h);
+    for (i, word) in words.iter().enumerate() {
+        fips::put_word(&mut out, 4 * i, *word);
+    }
     out
 }
 
@@ -51,9 +41,8 @@ fn result_of(h: Work) -> [u8; 32]
 pub fn digest(message: &[u8], out: &mut [u8; 32])
     ensures { out.new ≡ sha256 message.now }
 {
-    let full = message.len() / 64;
     let mut tail = [0u8; 128];
-    let count = padding::finish(message, 64 * full, &mut tail);
-    let body = blocks::absorb(start(), message, full);
-    *out = result_of(blocks::absorb(body, &tail, count));
+    let last = padding::finish(message, &mut tail);
+    let body = blocks::absorb(start(), message);
+    *out = result_of(blocks::absorb(body, last));
 }

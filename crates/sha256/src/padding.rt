@@ -1,38 +1,30 @@
 // The end of the padded message (5.1.1): what is left of the message, the bit 1, zero bits and the length.
-ghost use Rattle.std.specs.Prelude.{◌≡◌, ◌+◌, ◌*◌, ◌%◌, ◌^◌, ◌≤◌, ◌<◌, length, replicate};
+ghost use Rattle.std.specs.Prelude.{◌≡◌, ◌+◌, ◌*◌, ◌/◌, ◌≤◌, length, drop, replicate};
 ghost use Rattle.spans.specs.Bytes.{put};
 ghost use Rattle.spans.specs.Words.{bytes_of};
-ghost use Rattle.sha256.specs.Padding.{Ending};
-
-fn half(x: u64) -> u32
-    ensures { result ≡ x % 2 ^ 32 }
-{
-    (x % 4294967296) as u32
-}
+ghost use Rattle.fips.specs.Fips.{pad};
 
 // The length in bits of a message of size bytes.
 fn put_length(area: &mut [u8], at: usize, size: usize)
     requires { at + 8 ≤ length area.old }
     ensures { area.new ≡ put area.old at (bytes_of 8 (8 * size)) }
 {
-    let bits = (size as u64) << 3;
-    fips::put_word(area, at, half(bits >> 32));
-    fips::put_word(area, at + 4, half(bits));
+    let bits = (size as u64).wrapping_mul(8);
+    area[at..at + 8].copy_from_slice(&bits.to_be_bytes());
 }
 
-// The last blocks of the padded message, of which from bytes are behind, at the front of tail: how many they are.
+// The last blocks of the padded message, those behind the message's own whole blocks. They are made in tail.
 // Apart from digest, whose own array tail is, the copy stays a loop: there it would be a call of memcpy, and the archive needs memset alone.
 #[inline(never)]
-pub fn finish(message: &[u8], from: usize, tail: &mut [u8]) -> usize
-    requires from_value { (from % 64 ≡ 0) × (from ≤ length message.now) × (length message.now < from + 64) }
-    requires tail_value { tail.old ≡ replicate 128 0 }
-    ensures { Ending message.now from result tail.new }
+pub fn finish<'a>(message: &[u8], tail: &'a mut [u8; 128]) -> &'a [u8]
+    requires { tail.old ≡ replicate 128 0 }
+    ensures { result.now ≡ drop (64 * (length message.now / 64)) (pad message.now) }
 {
     let size = message.len();
-    let rest = size - from;
-    let count = (rest + 72) / 64;
-    store::copy(message, from, tail, 0, rest);
+    let rest = size % 64;
+    let end = (rest + 72) / 64 * 64;
+    store::copy(message, size - rest, tail, 0, rest);
     tail[rest] = 128;
-    put_length(tail, 64 * count - 8, size);
-    count
+    put_length(tail, end - 8, size);
+    &tail[..end]
 }
