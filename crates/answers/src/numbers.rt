@@ -62,7 +62,7 @@ fn refusal_cause(refusal: Refusal) -> u64
     ensures { result ≡ refusal_cause refusal }
 {
     match refusal {
-        Refusal::Image(c) => causes::number(c) as u64,
+        Refusal::Image(c) => u32::from(c) as u64,
         Refusal::Geometry => 0,
         Refusal::Damage => 0,
         Refusal::Header => 0,

@@ -5,6 +5,8 @@ use Rattle.spans.specs.Choice.{pick}
 use Rattle.fips.specs.Fips.{sha256}
 use Rattle.causes.specs.Header.{magic_number, header_magic, records_size, header_size, body_size, image_size}
 use Rattle.records.specs.Records.{Split, Place, records, digests}
+use Rattle.records.specs.declared.Fault.{Fault}
+use Rattle.records.specs.declared.Fault.TheVariants.{NotFilled, NotOneDigest}
 use Rattle.causes.specs.declared.Cause.{Cause}
 use Rattle.causes.specs.declared.Cause.TheVariants.{HeaderMagic, HeaderSizes, RecordsArea, DigestRecord, DigestDiffers}
 use Rattle.causes.specs.declared.Sizes.{Sizes}
@@ -34,6 +36,11 @@ number_of DigestDiffers = 5
 unfoldable pub cause_of : Verdict → ℕ
 cause_of (Ok _) = 0
 cause_of (Err c) = number_of c
+
+-- "3. the records do not fill their area exactly", "4. not exactly one record of type 1, or its length is not 32"
+unfoldable pub cause_of_fault : Fault → Cause
+cause_of_fault NotFilled = RecordsArea
+cause_of_fault NotOneDigest = DigestRecord
 
 -- Cause 2, of 32 bytes or more: "header size under 32, or the three sizes sum above the bytes lent"
 unfoldable pub sizes : List ℕ → Header

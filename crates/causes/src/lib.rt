@@ -2,7 +2,9 @@
 #![tactic(auto)]
 
 ghost use Rattle.std.specs.Prelude.{◌≡◌};
-ghost use Rattle.causes.specs.Check.{number_of};
+ghost use Rattle.causes.specs.Check.{number_of, cause_of_fault};
+
+use records::Fault;
 
 // Why an image is rejected; specs/Check.antt gives the numbers.
 #[derive(Clone, Copy, PartialEq, Eq)]
@@ -30,15 +32,30 @@ pub struct Signed {
 }
 
 // The number that document 01 gives a cause.
-#[tactic(auto, unfolding(crate::specs::Check::number_of))]
-pub fn number(cause: Cause) -> u32
-    ensures { result ≡ number_of cause }
-{
-    match cause {
-        Cause::HeaderMagic => 1,
-        Cause::HeaderSizes => 2,
-        Cause::RecordsArea => 3,
-        Cause::DigestRecord => 4,
-        Cause::DigestDiffers => 5,
+impl From<Cause> for u32 {
+    ghost from_gives = { λ cause number. number ≡ number_of cause };
+
+    #[tactic(auto, unfolding(crate::specs::Check::number_of))]
+    fn from(cause: Cause) -> u32 {
+        match cause {
+            Cause::HeaderMagic => 1,
+            Cause::HeaderSizes => 2,
+            Cause::RecordsArea => 3,
+            Cause::DigestRecord => 4,
+            Cause::DigestDiffers => 5,
+        }
+    }
+}
+
+// The cause that a fault of the records is.
+impl From<Fault> for Cause {
+    ghost from_gives = { λ fault cause. cause ≡ cause_of_fault fault };
+
+    #[tactic(auto, unfolding(crate::specs::Check::cause_of_fault))]
+    fn from(fault: Fault) -> Cause {
+        match fault {
+            Fault::NotFilled => Cause::RecordsArea,
+            Fault::NotOneDigest => Cause::DigestRecord,
+        }
     }
 }

@@ -1,20 +1,17 @@
 // The layout: causes 1 to 4, before the digest.
-ghost use Rattle.std.specs.Prelude.{◌≡◌, ◌+◌, ◌^◌, ◌<◌, ◌≤◌, length};
+ghost use Rattle.std.specs.Prelude.{◌≡◌, ◌+◌, ◌^◌, ◌<◌, length};
 ghost use Rattle.records.specs.Records.{records};
 ghost use Rattle.causes.specs.Check.{layout_of, structure};
 
 use causes::{Cause, Signed};
 
-// Causes 3 and 4, of the records area, which stands behind the bytes covered: no digest has its place below 36.
+// Causes 3 and 4, of the records area, which stands behind the bytes covered.
 fn layout_of(area: &[u8], covered: usize) -> Result<Signed, Cause>
-    requires { (32 ≤ covered) × (covered + length area.now < 2 ^ 64) }
+    requires { covered + length area.now < 2 ^ 64 }
     ensures { result ≡ layout_of covered (records area.now) }
 {
-    match records::digest_place(area, covered) {
-        3 => Err(Cause::RecordsArea),
-        4 => Err(Cause::DigestRecord),
-        digest => Ok(Signed { covered, digest }),
-    }
+    let digest = records::digest_place(area, covered)?;
+    Ok(Signed { covered, digest })
 }
 
 // Causes 1 to 4.

@@ -37,6 +37,6 @@ pub fn cause_number(image: &[u8]) -> u32
 {
     match check(image) {
         Ok(()) => 0,
-        Err(cause) => causes::number(cause),
+        Err(cause) => u32::from(cause),
     }
 }

@@ -4,7 +4,7 @@ use Rattle.std.proofs.Common.{sym, ◌∙◌, arith}
 use Rattle.std.proofs.Math.ListN.{get_or}
 use Rattle.records.specs.Records.{step_at, after, first_then, record_of, records, digests}
 use Rattle.records.specs.RecordLaws.{whole_of, stump_of, records_step, record_sized, digests_one, digests_other}
-use Rattle.records.specs.Walk.{Walked, Short, Filled, counted, unless_over, walked, place_or_cause}
+use Rattle.records.specs.Walk.{Walked, Short, Filled, counted, unless_over, walked}
 use Rattle.records.specs.declared.Step.TheVariants.{End, Stump, Record}
 
 over : (xs : List ℕ) (w : Walked) → 0 < length xs → unless_over xs w ≡ Short
@@ -50,14 +50,12 @@ module _ (xs : List ℕ) (at n place size : ℕ) where
         four,
       )
 
--- a step of the walk, with what the call on the rest of the area answers
-module _ (xs rest : List ℕ) (at n place size start size' r : ℕ) (rest_is : rest ≡ drop (start + size') xs) where
-  pub on_digest : step_at xs 0 ≡ Record 1 start size'
-      → r ≡ place_or_cause (walked (records rest) (at + (start + size')) (n + 1) (at + start) size')
-      → r ≡ place_or_cause (walked (records xs) at n place size)
-  on_digest e a = rw (walk_digest xs at n place size start size' e, ← rest_is) a
+-- What was met before the first record, and the rest of the area behind it, come to what the area came to.
+module _ (xs rest : List ℕ) (at n place size start size' : ℕ) (w : Walked) (rest_is : rest ≡ drop (start + size') xs) where
+  pub on_digest : step_at xs 0 ≡ Record 1 start size' → walked (records xs) at n place size ≡ w
+      → walked (records rest) (at + (start + size')) (n + 1) (at + start) size' ≡ w
+  on_digest e a = rw rest_is (sym (walk_digest xs at n place size start size' e) ∙ a)
 
-  pub on_other : (kind : ℕ) → (kind ≡ 1 → ⊥) → step_at xs 0 ≡ Record kind start size'
-      → r ≡ place_or_cause (walked (records rest) (at + (start + size')) n place size)
-      → r ≡ place_or_cause (walked (records xs) at n place size)
-  on_other kind d e a = rw (walk_other xs at n place size kind start size' d e, ← rest_is) a
+  pub on_other : (kind : ℕ) → (kind ≡ 1 → ⊥) → step_at xs 0 ≡ Record kind start size' → walked (records xs) at n place size ≡ w
+      → walked (records rest) (at + (start + size')) n place size ≡ w
+  on_other kind d e a = rw rest_is (sym (walk_other xs at n place size kind start size' d e) ∙ a)

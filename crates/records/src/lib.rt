@@ -14,6 +14,13 @@ pub enum Step {
     Record { kind: u8, start: usize, size: usize },
 }
 
+// Why the records of an area name no digest: they do not fill the area, or there is not exactly one digest record of 32 bytes.
+#[derive(Clone, Copy, PartialEq, Eq)]
+pub enum Fault {
+    NotFilled,
+    NotOneDigest,
+}
+
 // What stands at a place of an area of records. The walk and the reader both go by it.
 pub fn step_at(area: &[u8], at: usize) -> Step
     ensures { result ≡ step_at area.now at }
@@ -36,56 +43,56 @@ pub fn step_at(area: &[u8], at: usize) -> Step
     }
 }
 
-// Cause 4, where the records fill their area: the place of the one digest of 32 bytes, or 4.
-fn only_digest(digests: usize, place: usize, size: usize) -> usize
-    ensures { result ≡ place_or_cause (Walked.Filled digests place size) }
-{
-    if digests == 1 {
-        if size == 32 {
-            return place;
-        }
-    }
-    4
-}
-
-// Causes 3 and 4: the first record, and then the rest of the area by the same rule. The area stands at `at` of the image; of the records
-// before it, digests were of type 1, and the last of those has its size bytes at place. The answer is one number, the digest's place or
-// the cause, and the rest of the area is lent on in the caller's place: so the compiler needs no stack for a record.
-fn walk<'r, 'a>(
-    area: &'r mut &'a [u8],
-    at: usize,
-    digests: usize,
+// The digest records that the walk has met: how many, and of the last where its bytes stand in the image, and how many they are.
+#[derive(Clone, Copy)]
+struct Digests {
+    count: usize,
     place: usize,
     size: usize,
-) -> usize
-    requires { (digests ≤ at) × (at + length area.old.now < 2 ^ 64) }
-    ensures { result ≡ place_or_cause (walked (records area.old.now) at digests place size) }
-{
-    let all = *area;
-    match step_at(all, 0) {
-        Step::End => only_digest(digests, place, size),
-        Step::Stump => 3,
-        Step::Record {
-            kind,
-            start,
-            size: length,
-        } => {
-            let next = start + length;
-            *area = &all[next..];
-            if kind == 1 {
-                walk(area, at + next, digests + 1, at + start, length)
-            } else {
-                walk(area, at + next, digests, place, size)
-            }
+}
+
+impl Digests {
+    // Where the one digest of 32 bytes stands, if there is just that.
+    #[tactic(auto, unfolding(crate::specs::Walk::place_or_cause))]
+    fn only(self) -> Result<usize, Fault>
+        ensures { result ≡ place_or_cause (Walked.Filled self.count self.place self.size) }
+    {
+        if self.count == 1 && self.size == 32 {
+            Ok(self.place)
+        } else {
+            Err(Fault::NotOneDigest)
         }
     }
 }
 
-// Causes 3 and 4, of the whole area, which stands at `at` of the image.
-pub fn digest_place(area: &[u8], at: usize) -> usize
+// The first record, and then the rest of the area by the same rule. The area stands at `at` of the image.
+#[tactic(auto, using(crate::specs::RecordLaws::whole_of))]
+pub fn digest_place(area: &[u8], at: usize) -> Result<usize, Fault>
     requires { at + length area.now < 2 ^ 64 }
     ensures { result ≡ place_or_cause (walked (records area.now) at 0 0 0) }
 {
+    let mut digests = Digests {
+        count: 0,
+        place: 0,
+        size: 0,
+    };
     let mut rest = area;
-    walk(&mut rest, at, 0, 0, 0)
+    let mut place = at;
+    while let Step::Record { kind, start, size } = step_at(rest, 0) {
+        if kind == 1 {
+            digests = Digests {
+                count: digests.count + 1,
+                place: place + start,
+                size,
+            };
+        }
+        let next = start + size;
+        rest = &rest[next..];
+        place += next;
+    }
+    if rest.is_empty() {
+        digests.only()
+    } else {
+        Err(Fault::NotFilled)
+    }
 }
