@@ -12,7 +12,9 @@ ghost use Rattle.plan.specs.Asked.{flash_of};
 ghost use Rattle.plan.specs.Bounds.{in_bounds};
 
 use flash::{Geometry, Run, Sector};
+use marks::Trailer;
 use plan::Course;
+use trailer::Mark;
 
 // Lines 3 to 6 of the trailer exchange.
 fn lines_three_to_six(
@@ -86,7 +88,7 @@ fn ok_is_unset(g: Geometry, slot0: &[u8]) -> bool
     requires { Small g }
     ensures { result ≡ ok_unset (build g) (flash_of slot0.now [] []) }
 {
-    marks::image_ok::ok_unset(g, trailer::slot_trailer(g, slot0))
+    Trailer::of_slot(g, slot0).image_ok() == Mark::Unset
 }
 
 pub fn carry_out(

@@ -10,7 +10,9 @@ ghost use Rattle.marking.specs.Standing.{standing_of};
 
 use answers::{Ending, Marked, Refusal};
 use flash::{Bytes, End, Geometry, Run};
+use marks::Trailer;
 use plan::Course;
+use trailer::{Magic, Mark};
 
 pub fn refuse(refusal: Refusal) -> Marked
     ensures { (result.ending ≡ Ending.Refused refusal) × (result.count ≡ 0) }
@@ -70,25 +72,16 @@ fn is_unmarked(g: Geometry, slot1: &[u8]) -> bool
     requires { Small g }
     ensures { result ≡ unmarked g (flash_of [] slot1.now []) }
 {
-    let t = trailer::slot_trailer(g, slot1);
-    if marks::image_ok::ok_unset(g, t) {
-        marks::magic::magic_unset(g, t)
-    } else {
-        false
-    }
+    let t = Trailer::of_slot(g, slot1);
+    t.image_ok() == Mark::Unset && t.magic() == Magic::Unset
 }
 
 fn is_confirmable(g: Geometry, slot0: &[u8]) -> bool
     requires { Small g }
     ensures { result ≡ confirmable g (flash_of slot0.now [] []) }
 {
-    let t = trailer::slot_trailer(g, slot0);
-    if marks::magic::magic_good(g, t) {
-        if marks::copy_done::done_set(g, t) {
-            return marks::image_ok::ok_unset(g, t);
-        }
-    }
-    false
+    let t = Trailer::of_slot(g, slot0);
+    t.magic() == Magic::Good && t.copy_done() == Mark::Value(1) && t.image_ok() == Mark::Unset
 }
 
 // The writes that marking takes.

@@ -9,10 +9,8 @@ ghost use Rattle.flash.specs.Small.{Small};
 
 use flash::{Geometry, Sector};
 
-pub mod copy_done;
-pub mod image_ok;
 pub mod magic;
-pub mod mark;
+mod mark;
 pub mod part;
 pub mod progress;
 

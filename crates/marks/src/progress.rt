@@ -1,4 +1,4 @@
-// The run of progress marks in the trailer sector t of slot 0, in reading order.
+// The run of progress marks in slot 0's trailer sector, in reading order.
 ghost use Rattle.std.specs.Prelude.{◌≡◌, ◌*◌, ◌<◌};
 ghost use Rattle.flash.specs.Base.{build};
 ghost use Rattle.flash.specs.Small.{Small};
@@ -6,7 +6,6 @@ ghost use Rattle.trailer.specs.Trailer.{mark_at, mark_of, written, legal};
 ghost use Rattle.marks.specs.RunLaws.{fits_run};
 
 use crate::Trailer;
-use crate::mark::{has_value, is_unset, mark_in};
 use flash::{Geometry, Offset, Unit, Units};
 use trailer::Mark;
 
@@ -19,61 +18,6 @@ pub fn mark_place(g: Geometry, k: usize) -> Offset
     let all = g.bytes_in(Units(3 * g.sectors));
     let place = g.place_of(Unit(k));
     Offset(g.sector - 32 - all.0) + place
-}
-
-fn progress_mark(g: Geometry, t: &[u8], k: usize) -> Mark
-    requires small { Small g }
-    requires k_bound { k < 3 * g.sectors }
-    ensures { result ≡ mark_of (build g) t.now (mark_at (build g) k) }
-{
-    mark_in(g, t, mark_place(g, k))
-}
-
-// How many marks stand before the first that is Unset.
-pub fn written_marks(g: Geometry, t: &[u8]) -> usize
-    requires { Small g }
-    ensures { result ≡ written (build g) t.now 0 (3 * g.sectors) }
-{
-    let all = 3 * g.sectors;
-    let mut k = 0;
-    while k < all {
-        if is_unset(progress_mark(g, t, k)) {
-            return k;
-        }
-        k += 1;
-    }
-    k
-}
-
-// Whether mark number k is as a run of c marks has it: 01, 02 and 03 in turn, then Unset.
-fn mark_fits(g: Geometry, t: &[u8], c: usize, k: usize) -> bool
-    requires small { Small g }
-    requires k_bound { k < 3 * g.sectors }
-    ensures { result ≡ fits_run (build g) t.now c k }
-{
-    let m = progress_mark(g, t, k);
-    if k < c {
-        has_value(1 + (k % 3) as u8, m)
-    } else {
-        is_unset(m)
-    }
-}
-
-// Whether the marks are those of a run of c marks.
-pub fn legal_run(g: Geometry, t: &[u8], c: usize) -> bool
-    requires { Small g }
-    ensures { result ≡ legal (build g) t.now c 0 (3 * g.sectors) }
-{
-    let all = 3 * g.sectors;
-    let mut k = 0;
-    while k < all {
-        if mark_fits(g, t, c, k) {
-            k += 1;
-        } else {
-            return false;
-        }
-    }
-    true
 }
 
 impl<'a> Trailer<'a> {

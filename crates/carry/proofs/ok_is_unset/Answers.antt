@@ -1,13 +1,12 @@
-use Rattle.std.proofs.Common.{List, ap, ℕ, ◌∙◌}
+use Rattle.std.proofs.Common.{rules, sym, ◌≡◌}
 use Rattle.flash.specs.Base.{base, build}
 use Rattle.trailer.specs.Trailer.{trailer, mark_of, is_unset, ok_at}
 use Rattle.plan.specs.Decision.{ok_unset}
 use Rattle.carry.proofs.ok_is_unset.Goals as goal
 
 pub returns : goal.returns
-unfolding ok_unset trailer base
+unfolding ok_unset trailer base is_unset
 returns c =
-    let given = c.args in
-    c.ok_unset.ensures
-    ∙ ap (λ (t : List ℕ). is_unset (mark_of (build given.g) t (ok_at (build given.g))))
-    c.slot_trailer.ensures
+    let t = c.of_slot in
+    let asked : c.eq.result ≡ is_unset (mark_of (build t.result.g) t.result.bytes.now (ok_at (build t.result.g))) = search rules in
+    rw (sym t.ensures.bytes, sym t.ensures.geometry) asked

@@ -17,7 +17,7 @@ unfolding base
 returns-then-all_blank-2 c =
     let t = c.args.self in
     let some = sym c.all_blank.ensures ∙ c.if-all_blank.false in
-    let whole = sym c.all_blank-2.ensures ∙ c.if-all_blank-2.true in
+    let whole = sym c.all_blank-else-all_blank.ensures ∙ c.if-all_blank-2.true in
     let reads = mark_reads (build t.g) t.bytes.now c.args.place c.requires.small.positive in
     let first : c.unwrap_or.result ≡ get_or t.bytes.now c.args.place.0 0 = search rules in
     rw (reads, some, whole) (ap Mark.Value first)
@@ -27,6 +27,6 @@ unfolding base
 returns-else-all_blank-2 c =
     let t = c.args.self in
     let some = sym c.all_blank.ensures ∙ c.if-all_blank.false in
-    let torn = sym c.all_blank-2.ensures ∙ c.if-all_blank-2.false in
+    let torn = sym c.all_blank-else-all_blank.ensures ∙ c.if-all_blank-2.false in
     let reads = mark_reads (build t.g) t.bytes.now c.args.place c.requires.small.positive in
     rw (reads, some, torn)
