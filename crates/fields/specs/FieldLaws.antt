@@ -31,3 +31,12 @@ unfolding field
 field_four xs at h =
     let first : part xs at 2 ≡ get_or xs at 0 ∷ get_or xs (at + 1) 0 ∷ [] = part_two xs at (omega arith) in
     rw (← part_add xs at 2 2, first, little_two, little_more)
+
+-- and as the four that they are
+pub field_four_bytes : (xs : List ℕ) (at : ℕ) → at + 4 ≤ length xs
+    → get_or xs at 0 + get_or xs (at + 1) 0 * 256 + get_or xs (at + 2) 0 * 65536 + get_or xs (at + 3) 0 * 16777216 ≡ field xs at 4
+field_four_bytes xs at h =
+    let low = field_two xs at (omega arith) in
+    let next : at + 2 + 1 ≡ at + 3 = omega arith in
+    let high = rw next at (field_two xs (at + 2) (omega arith)) in
+    omega (arith, field_four xs at h)
