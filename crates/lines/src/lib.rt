@@ -10,6 +10,7 @@ ghost use Rattle.writes.specs.InArea.{ok_in, magic_in, three_in, lines_one_two_i
 
 use flash::{Geometry, Run, Sector};
 
+#[tactic(auto, unfolding(writes::specs::InArea::three_in, flash::specs::Base::base))]
 fn three_marks(g: Geometry, slot0: &mut [u8], run: Run) -> Run
     requires { Small g }
     ensures { local slot0.new result ≡ three_in g (trailer_sector (build g) Area.slot0) (local slot0.old run) }
@@ -20,6 +21,7 @@ fn three_marks(g: Geometry, slot0: &mut [u8], run: Run) -> Run
 }
 
 // Lines 1 and 2 of the trailer exchange.
+#[tactic(auto, unfolding(writes::specs::InArea::lines_one_two_in, flash::specs::Base::base))]
 pub fn lines_one_two(g: Geometry, scratch: &mut [u8], lasting: bool, run: Run) -> Run
     requires { Small g }
     ensures { local scratch.new result ≡ lines_one_two_in g (trailer_sector (build g) Area.scratch) lasting
@@ -31,6 +33,7 @@ pub fn lines_one_two(g: Geometry, scratch: &mut [u8], lasting: bool, run: Run) -
 }
 
 // Line 5.
+#[tactic(auto, unfolding(writes::specs::InArea::line_five_in, flash::specs::Base::base))]
 pub fn line_five(g: Geometry, slot0: &mut [u8], lasting: bool, run: Run) -> Run
     requires { Small g }
     ensures { local slot0.new result ≡ line_five_in g (trailer_sector (build g) Area.slot0) lasting
@@ -43,6 +46,7 @@ pub fn line_five(g: Geometry, slot0: &mut [u8], lasting: bool, run: Run) -> Run
 }
 
 // Marking: image ok, if it is for good, and magic.
+#[tactic(auto, unfolding(flash::specs::Base::base))]
 pub fn ok_and_magic(g: Geometry, slot1: &mut [u8], lasting: bool, run: Run) -> Run
     requires { Small g }
     ensures { local slot1.new result ≡ magic_in g (trailer_sector (build g) Area.slot1)
@@ -54,16 +58,15 @@ pub fn ok_and_magic(g: Geometry, slot1: &mut [u8], lasting: bool, run: Run) -> R
 }
 
 // The sectors of an area that stand before another.
+#[tactic(auto, unfolding(writes::specs::InArea::erases_in))]
 pub fn erase_sectors(g: Geometry, area: &mut [u8], end: Sector, run: Run) -> Run
     requires small { Small g }
     requires end_bound { end.0 ≤ 128 }
     ensures { local area.new result ≡ erases_in g 0 end.0 (local area.old run) }
 {
     let mut r = run;
-    let mut i = 0;
-    while i < end.0 {
+    for i in 0..end.0 {
         r = operations::erase(g, area, Sector(i), r);
-        i += 1;
     }
     r
 }
