@@ -13,8 +13,10 @@ ghost use Rattle.moves.specs.Moves.{marked_sector, move_of};
 ghost use Rattle.moves.specs.Areas.{state};
 
 use flash::{Geometry, Run, Sector};
+use marks::part::Part;
 
 // A sector's bytes go to an erased sector of another area.
+#[tactic(auto, unfolding(writes::specs::Steps::move_in))]
 fn move_sector(g: Geometry, src: &[u8], from: Sector, dst: &mut [u8], to: Sector, run: Run) -> Run
     requires small { Small g }
     requires from_bound { (from.0 ≤ 127) × (to.0 ≤ 127) }
@@ -22,9 +24,8 @@ fn move_sector(g: Geometry, src: &[u8], from: Sector, dst: &mut [u8], to: Sector
 {
     let erased = operations::erase(g, dst, to, run);
     let at = g.place_of(g.first_unit(from));
-    let u = g.first_unit(to);
     let units = g.units_per_sector();
-    operations::write_units(g, src, at, dst, u, units, erased)
+    operations::write_units(g, src, at, dst, g.first_unit(to), units, erased)
 }
 
 // The sector that mark number k is of.
@@ -33,8 +34,7 @@ fn marked_sector(g: Geometry, k: usize) -> Sector
     requires k_bound { k < 3 * g.sectors }
     ensures { result ≡ marked_sector g k }
 {
-    let last = g.last_sector();
-    Sector(last.0 - k / 3)
+    Sector(g.last_sector().0 - k / 3)
 }
 
 // The move whose mark has number k, without its mark.
@@ -53,14 +53,11 @@ fn one_move(
         (state slot0.old slot1.old scratch.old run) }
 {
     let i = marked_sector(g, k);
-    let j = k % 3;
-    if j == 0 {
-        return move_sector(g, slot1, i, scratch, Sector(0), run);
+    match k % 3 {
+        0 => move_sector(g, slot1, i, scratch, Sector(0), run),
+        1 => move_sector(g, slot0, i, slot1, i, run),
+        _ => move_sector(g, scratch, Sector(0), slot0, i, run),
     }
-    if j == 1 {
-        return move_sector(g, slot0, i, slot1, i, run);
-    }
-    move_sector(g, scratch, Sector(0), slot0, i, run)
 }
 
 fn marked_move(
@@ -82,6 +79,7 @@ fn marked_move(
 }
 
 // The moves from mark number c on, each with its mark; what is left is copy done.
+#[tactic(auto, using(crate::specs::Areas::next_mark, crate::specs::Areas::last_mark))]
 fn moves_from(
     g: Geometry,
     c: usize,
@@ -98,15 +96,14 @@ fn moves_from(
         (state slot0.old slot1.old scratch.old run) }
 {
     let mut r = run;
-    let mut k = c;
-    while k < 3 * g.sectors {
+    for k in c..3 * g.sectors {
         r = marked_move(g, k, slot0, slot1, scratch, r);
-        k += 1;
     }
     r
 }
 
 // The data exchange after c marks.
+#[tactic(auto, unfolding(flash::specs::Base::base))]
 pub fn data_exchange(
     g: Geometry,
     c: usize,
@@ -122,7 +119,6 @@ pub fn data_exchange(
         (state slot0.old slot1.old scratch.old run) }
 {
     let moved = moves_from(g, c, slot0, slot1, scratch, run);
-    let at = marks::part::Part::CopyDone.place(g);
-    let last = g.last_sector();
-    writes::write_mark(g, slot0, last, at, 1, moved)
+    let at = Part::CopyDone.place(g);
+    writes::write_mark(g, slot0, g.last_sector(), at, 1, moved)
 }
