@@ -17,6 +17,7 @@ use plan::Course;
 use trailer::Mark;
 
 // Lines 3 to 6 of the trailer exchange.
+#[tactic(auto, unfolding(flash::specs::Base::base))]
 fn lines_three_to_six(
     g: Geometry,
     slot0: &mut [u8],
@@ -38,6 +39,7 @@ fn lines_three_to_six(
 }
 
 // The trailer exchange from its third line on, and the data exchange.
+#[tactic(auto, using(flash::specs::OperationLaws::steps_append))]
 fn from_line_three(
     g: Geometry,
     slot0: &mut [u8],
@@ -72,6 +74,7 @@ fn whole_exchange(
 }
 
 // The clear-out. Scratch, x2, has no part in it.
+#[tactic(auto, unfolding(flash::specs::Base::base))]
 fn clear_out(g: Geometry, slot0: &mut [u8], slot1: &mut [u8], unset: bool, run: Run) -> Run
     requires { Small g }
     ensures { (x2 : List ℕ) → state slot0.new slot1.new x2 result
@@ -84,6 +87,7 @@ fn clear_out(g: Geometry, slot0: &mut [u8], slot1: &mut [u8], unset: bool, run: 
 }
 
 // Whether slot 0's image ok is Unset, for the clear-out.
+#[tactic(auto, unfolding(plan::specs::Decision::ok_unset, trailer::specs::Trailer::trailer, flash::specs::Base::base))]
 fn ok_is_unset(g: Geometry, slot0: &[u8]) -> bool
     requires { Small g }
     ensures { result ≡ ok_unset (build g) (flash_of slot0.now [] []) }
@@ -91,6 +95,7 @@ fn ok_is_unset(g: Geometry, slot0: &[u8]) -> bool
     Trailer::of_slot(g, slot0).image_ok() == Mark::Unset
 }
 
+#[tactic(auto, unfolding(plan::specs::Decision::list_of, plan::specs::Decision::ok_unset, trailer::specs::Trailer::trailer, flash::specs::Operations::steps, flash::specs::Base::base), using(plan::specs::Bounds::resumed_bounds))]
 pub fn carry_out(
     g: Geometry,
     course: Course,
@@ -109,13 +114,11 @@ pub fn carry_out(
         Course::FromLineThree(lasting) => from_line_three(g, slot0, slot1, scratch, lasting, run),
         Course::Resume(c) => moves::data_exchange(g, c, slot0, slot1, scratch, run),
         Course::Test => whole_exchange(g, slot0, slot1, scratch, false, run),
-        Course::Permanent => whole_exchange(g, slot0, slot1, scratch, true, run),
-        Course::Revert => whole_exchange(g, slot0, slot1, scratch, true, run),
+        Course::Permanent | Course::Revert => whole_exchange(g, slot0, slot1, scratch, true, run),
         Course::Clear => {
             let unset = ok_is_unset(g, slot0);
             clear_out(g, slot0, slot1, unset, run)
         }
-        Course::Damage => run,
-        Course::Nothing => run,
+        Course::Damage | Course::Nothing => run,
     }
 }
