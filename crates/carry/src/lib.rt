@@ -87,7 +87,6 @@ fn clear_out(g: Geometry, slot0: &mut [u8], slot1: &mut [u8], unset: bool, run: 
 }
 
 // Whether slot 0's image ok is Unset, for the clear-out.
-#[tactic(auto, unfolding(plan::specs::Decision::ok_unset, trailer::specs::Trailer::trailer, flash::specs::Base::base))]
 fn ok_is_unset(g: Geometry, slot0: &[u8]) -> bool
     requires { Small g }
     ensures { result ≡ ok_unset (build g) (flash_of slot0.now [] []) }
