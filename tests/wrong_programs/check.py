@@ -4,7 +4,7 @@ An edit holds one or more wrong programs, so that a crate is not proved again fo
 
     wrong: NAME: PLACE: FACT
 
-PLACE is the function (`numbers::of_answer`), or for a changed definition the file that fails (`specs/Examples.antt`); FACT is what no longer
+PLACE is the function (`numbers::done`), or for a changed definition the file that fails (`specs/Examples.antt`); FACT is what no longer
 holds there: a goal of the function (`returns-in-Resumed`) or a theorem. No two of an edit break the same fact, so none can hide another.
 `rt` counts an edit as refused if any proof of its crate fails, and says the first. This has the prover check each edit as `rt` does, and looks
 in all that it says for each fact: not one that only follows from another, and not one by which the proof merely no longer fits the code.

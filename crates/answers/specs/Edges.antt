@@ -1,12 +1,12 @@
 -- Document 01's numbers of what is answered, by computing: "Refusal numbers", what was done, and which number stands in which field.
-use Rattle.std.specs.Prelude.{refl, List, [], ◌∷◌, ℕ}
+use Rattle.std.specs.Prelude.{refl, List, [], ◌∷◌, ℕ, Result, Ok, Err, ⊤}
 use Rattle.spans.specs.Table.{Row, row, Holds, no_more, and}
 use Rattle.causes.specs.Check.{number_of}
 use Rattle.causes.specs.declared.Cause.TheVariants.{RecordsArea, DigestRecord, DigestDiffers}
 use Rattle.plan.specs.declared.Done.{Done}
+use Rattle.answers.specs.declared.Refusal.{Refusal}
 use Rattle.answers.specs.declared.Refusal.TheVariants.{Geometry, Damage, Header, Image, Marks, UnderWay, Needs, Unerased}
 use Rattle.answers.specs.declared.Outcome.{Outcome}
-use Rattle.answers.specs.declared.Ending.{Ending}
 use Rattle.answers.specs.declared.numbers.Numbers.{Numbers}
 use Rattle.answers.specs.declared.numbers.MarkNumbers.{MarkNumbers}
 use Rattle.answers.specs.Numbers.{refusal_number, refusal_cause, done_number, end_number, offset_number, outcome_refusal, outcome_cause, ending_refusal}
@@ -21,7 +21,7 @@ numbers : ℕ → ℕ → ℕ → ℕ → ℕ → Numbers
 numbers done end offset refusal cause =
     record { done = done; found = 4; count = 7; end = end; offset = offset; refusal = refusal; cause = cause }
 
-marked : Ending → MarkNumbers
+marked : Result ⊤ Refusal → MarkNumbers
 marked ending = marked_numbers (record { ending = ending; count = 16 })
 
 mark_numbers : ℕ → MarkNumbers
@@ -46,11 +46,11 @@ edges =
     ∷ row (ended Done.None (Outcome.Refused (Image DigestRecord))) (numbers 0 2 0 4 4)
     ∷ row (ended Done.None (Outcome.Refused (Image DigestDiffers))) (numbers 0 2 0 4 5)
     -- marking and confirming: 0 where it is written
-    ∷ row (marked Ending.Written) (mark_numbers 0) ∷ row (marked (Ending.Refused UnderWay)) (mark_numbers 6) ∷ []
+    ∷ row (marked (Ok tt)) (mark_numbers 0) ∷ row (marked (Err UnderWay)) (mark_numbers 6) ∷ []
 
 pub edges_hold : Holds edges
-unfolding edges ended numbers marked mark_numbers refusal_number refusal_cause done_number end_number offset_number outcome_refusal outcome_cause
-    ending_refusal with_outcome answer_numbers marked_numbers number_of
+unfolding edges ended numbers marked mark_numbers
+    number_of
 edges_hold =
     and refl (and refl (and refl (and refl (and refl (and refl (and refl (and refl (and refl (and refl (and refl
     (and refl (and refl (and refl (and refl (and refl (and refl (and refl (and refl (and refl (and refl (and refl

@@ -43,15 +43,9 @@ pub struct Answer {
     pub outcome: Outcome,
 }
 
-// How marking and confirming end.
-#[derive(Clone, Copy)]
-pub enum Ending {
-    Written,
-    Refused(Refusal),
-}
-
+// How marking and confirming end: written, or refused.
 #[derive(Clone, Copy)]
 pub struct Marked {
-    pub ending: Ending,
+    pub ending: Result<(), Refusal>,
     pub count: u64,
 }

@@ -1,9 +1,8 @@
 // Document 01's numbers of what the loader answers; specs/Numbers.antt has them.
 ghost use Rattle.std.specs.Prelude.{◌≡◌};
-ghost use Rattle.answers.specs.Numbers.{refusal_number, refusal_cause, done_number, end_number, offset_number, outcome_refusal, outcome_cause, ending_refusal};
-ghost use Rattle.answers.specs.Numbers.{with_outcome, answer_numbers, marked_numbers};
+ghost use Rattle.answers.specs.Numbers.{done_number, refusal_number, refusal_cause, answer_numbers, marked_numbers};
 
-use crate::{Answer, Ending, Marked, Outcome, Refusal};
+use crate::{Answer, Marked, Outcome, Refusal};
 use plan::Done;
 
 // The answer of a start; a field that does not apply is 0.
@@ -27,7 +26,6 @@ pub struct MarkNumbers {
     pub count: u64,
 }
 
-#[tactic(auto, unfolding(crate::specs::Numbers::done_number))]
 fn done(done: Done) -> u64
     ensures { result ≡ done_number done }
 {
@@ -41,121 +39,72 @@ fn done(done: Done) -> u64
     }
 }
 
-#[tactic(auto, unfolding(crate::specs::Numbers::refusal_number))]
-fn refusal(refusal: Refusal) -> u64
-    ensures { result ≡ refusal_number refusal }
-{
-    match refusal {
-        Refusal::Geometry => 1,
-        Refusal::Damage => 2,
-        Refusal::Header => 3,
-        Refusal::Image(_) => 4,
-        Refusal::Marks => 5,
-        Refusal::UnderWay => 6,
-        Refusal::Needs => 7,
-        Refusal::Unerased => 8,
+impl From<Refusal> for u64 {
+    ghost from_gives = { λ refusal number. number ≡ refusal_number refusal };
+
+    fn from(refusal: Refusal) -> u64 {
+        match refusal {
+            Refusal::Geometry => 1,
+            Refusal::Damage => 2,
+            Refusal::Header => 3,
+            Refusal::Image(_) => 4,
+            Refusal::Marks => 5,
+            Refusal::UnderWay => 6,
+            Refusal::Needs => 7,
+            Refusal::Unerased => 8,
+        }
     }
 }
 
-#[tactic(auto, unfolding(crate::specs::Numbers::refusal_cause))]
-fn refusal_cause(refusal: Refusal) -> u64
+// The number of the cause that the check gave, if it is what refused.
+fn cause(refusal: Refusal) -> u64
     ensures { result ≡ refusal_cause refusal }
 {
     match refusal {
-        Refusal::Image(c) => u32::from(c) as u64,
-        Refusal::Geometry => 0,
-        Refusal::Damage => 0,
-        Refusal::Header => 0,
-        Refusal::Marks => 0,
-        Refusal::UnderWay => 0,
-        Refusal::Needs => 0,
-        Refusal::Unerased => 0,
+        Refusal::Image(cause) => u64::from(u32::from(cause)),
+        _ => 0,
     }
 }
 
-#[tactic(auto, unfolding(crate::specs::Numbers::end_number))]
-fn end(outcome: Outcome) -> u64
-    ensures { result ≡ end_number outcome }
-{
-    match outcome {
-        Outcome::Boot(_) => 0,
-        Outcome::Stopped => 1,
-        Outcome::Refused(_) => 2,
+impl From<Answer> for Numbers {
+    ghost from_gives = { λ answer numbers. numbers ≡ answer_numbers answer };
+
+    fn from(answer: Answer) -> Numbers {
+        let booted = Numbers {
+            done: done(answer.done),
+            found: answer.found as u64,
+            count: answer.count,
+            end: 0,
+            offset: 0,
+            refusal: 0,
+            cause: 0,
+        };
+        match answer.outcome {
+            Outcome::Boot(offset) => Numbers {
+                offset: offset as u64,
+                ..booted
+            },
+            Outcome::Stopped => Numbers { end: 1, ..booted },
+            Outcome::Refused(refusal) => Numbers {
+                end: 2,
+                refusal: refusal.into(),
+                cause: cause(refusal),
+                ..booted
+            },
+        }
     }
 }
 
-#[tactic(auto, unfolding(crate::specs::Numbers::offset_number))]
-fn offset(outcome: Outcome) -> u64
-    ensures { result ≡ offset_number outcome }
-{
-    match outcome {
-        Outcome::Boot(at) => at as u64,
-        Outcome::Stopped => 0,
-        Outcome::Refused(_) => 0,
-    }
-}
+impl From<Marked> for MarkNumbers {
+    ghost from_gives = { λ marked numbers. numbers ≡ marked_numbers marked };
 
-#[tactic(auto, unfolding(crate::specs::Numbers::outcome_refusal))]
-fn outcome_refusal(outcome: Outcome) -> u64
-    ensures { result ≡ outcome_refusal outcome }
-{
-    match outcome {
-        Outcome::Boot(_) => 0,
-        Outcome::Stopped => 0,
-        Outcome::Refused(r) => refusal(r),
-    }
-}
-
-#[tactic(auto, unfolding(crate::specs::Numbers::outcome_cause))]
-fn outcome_cause(outcome: Outcome) -> u64
-    ensures { result ≡ outcome_cause outcome }
-{
-    match outcome {
-        Outcome::Boot(_) => 0,
-        Outcome::Stopped => 0,
-        Outcome::Refused(r) => refusal_cause(r),
-    }
-}
-
-#[tactic(auto, unfolding(crate::specs::Numbers::ending_refusal))]
-fn ending_refusal(ending: Ending) -> u64
-    ensures { result ≡ ending_refusal ending }
-{
-    match ending {
-        Ending::Written => 0,
-        Ending::Refused(r) => refusal(r),
-    }
-}
-
-// The numbers of how a start ended, beside those of what it did.
-fn with_outcome(done: u64, found: u64, count: u64, outcome: Outcome) -> Numbers
-    ensures { result ≡ with_outcome done found count outcome }
-{
-    Numbers {
-        done,
-        found,
-        count,
-        end: end(outcome),
-        offset: offset(outcome),
-        refusal: outcome_refusal(outcome),
-        cause: outcome_cause(outcome),
-    }
-}
-
-pub fn of_answer(answer: Answer) -> Numbers
-    ensures { result ≡ answer_numbers answer }
-{
-    let what = answer.done;
-    let outcome = answer.outcome;
-    with_outcome(done(what), answer.found as u64, answer.count, outcome)
-}
-
-pub fn of_marked(marked: Marked) -> MarkNumbers
-    ensures { result ≡ marked_numbers marked }
-{
-    let ending = marked.ending;
-    MarkNumbers {
-        refusal: ending_refusal(ending),
-        count: marked.count,
+    fn from(marked: Marked) -> MarkNumbers {
+        MarkNumbers {
+            refusal: match marked.ending {
+                Ok(()) => 0,
+                Err(refusal) => refusal.into(),
+            },
+            count: marked.count,
+        }
     }
 }

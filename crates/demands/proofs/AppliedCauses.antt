@@ -26,7 +26,6 @@ use Rattle.demands.specs.Instances.{small, booted}
 -- a start that is refused by another number than 1 or 2 came to D
 to_d : (bytes : List ℕ) (r : Refusal) → (full_start true small 4000 (booted bytes)).answer.outcome ≡ Outcome.Refused r
     → 3 ≤ refusal_number r → ToD (full_start true small 4000 (booted bytes)).answer
-unfolding refusal_number
 to_d bytes r e l = record {
   taken = λ h. let same : refusal_number r ≡ 1 = ap number (sym e ∙ h) in omega arith;
   undamaged = λ h. let same : refusal_number r ≡ 2 = ap number (sym e ∙ h) in omega arith;
@@ -51,7 +50,7 @@ pub erased_meets : MeetsLow (data_of small (full_start true small 4000 (booted [
 erased_meets = refusal_3 (met true small 4000 (booted [])) erased.0
 
 pub erased_refused : (full_start true small 4000 (booted [])).answer.outcome ≡ Outcome.Refused Refusal.Header
-unfolding refusal_number number_of
+unfolding number_of
 erased_refused =
     refusal_3_due (met true small 4000 (booted [])) (to_d [] Refusal.Header erased.0 (omega arith)) HeaderMagic erased.1 (omega arith)
 
@@ -69,7 +68,7 @@ pub no_records_meet : MeetsHigh true (data_of small (full_start true small 4000 
 no_records_meet = refusal_4 (met true small 4000 (booted (header 0 32 8 0))) DigestRecord no_records.0
 
 pub no_records_refused : (full_start true small 4000 (booted (header 0 32 8 0))).answer.outcome ≡ Outcome.Refused (Refusal.Image DigestRecord)
-unfolding refusal_number number_of
+unfolding number_of
 no_records_refused =
     refusal_4_due (met true small 4000 (booted (header 0 32 8 0))) (to_d (header 0 32 8 0) (Refusal.Image DigestRecord) no_records.0 (omega arith))
     DigestRecord no_records.1 (omega arith) refl

@@ -1,5 +1,5 @@
 -- The theorems about marking and confirming applied: their hypotheses can be met, and what they say then is document 01's.
-use Rattle.std.specs.Prelude.{◌≡◌, Bool, true, false, ◌&&◌, ℕ, ◌+◌, drop}
+use Rattle.std.specs.Prelude.{◌≡◌, Bool, true, false, ◌&&◌, ℕ, ◌+◌, drop, Ok}
 use Rattle.std.proofs.Math.Path.{refl}
 use Rattle.std.proofs.Common.{sym, ap, ◌∙◌, arith}
 use mathlib.Core.List.{List, [], ◌∷◌}
@@ -16,7 +16,6 @@ use Rattle.plan.specs.Decision.{step_a, continue, step_b, state_c, asks, decide}
 use Rattle.plan.specs.Lengths.{one_if}
 use Rattle.recovery.specs.All.{none, one}
 use Rattle.recovery.specs.Statement.{Due, sector_of}
-use Rattle.answers.specs.declared.Ending.{Ending}
 use Rattle.answers.specs.declared.Marked.{Marked}
 use Rattle.marking.specs.Marking.{unmarked, marking, confirmable, confirming}
 use Rattle.marking.specs.Standing.{standing_of}
@@ -32,7 +31,7 @@ use Rattle.demands.proofs.Instances.{ends_0, ends_1, lent_image, asked_so}
 use Rattle.demands.specs.AppliedMarks.{bare}
 
 whole_count : {numbers : List ℕ} {count : ℕ} {f whole f' : Flash} {a : Marked} → MarkEnds numbers count f whole a f'
-    → a.ending ≡ Ending.Written → a.count ≡ count
+    → a.ending ≡ Ok tt → a.count ≡ count
 whole_count (writes e c h) w = c
 whole_count (refuses r n e c h) w = absurd (let z : ◌≡◌ {A = ℕ} 0 1 = cc in omega arith)
 
@@ -63,7 +62,7 @@ module _ (p : Bool) where
   bare_marked : Marks (marking p) small bare (marking p small bare).answer (marking p small bare).flash
   bare_marked = met_mark (marking p) small bare
 
-  pub marks_written : (marking p small bare).answer.ending ≡ Ending.Written
+  pub marks_written : (marking p small bare).answer.ending ≡ Ok tt
   marks_written = allowed_marking p bare_marked markable
 
   pub marks_counted : (marking p small bare).answer.count ≡ 16 + one_if p
@@ -86,7 +85,7 @@ module _ (p : Bool) where
   unfolding bare
   due_as_marked = marked_due p bare_marked marks_written (lent_image (blank 512) (blank 512))
 
-  pub not_marked_twice : (marking p small for_test).answer.ending ≡ Ending.Written → ⊥
+  pub not_marked_twice : (marking p small for_test).answer.ending ≡ Ok tt → ⊥
   unfolding for_test unmarked
   not_marked_twice w =
       let m = (marking_allowed p (met_mark (marking p) small for_test) w).met in
@@ -116,7 +115,7 @@ allowed_on_trial = record {
 trial_confirmed : Marks confirming small on_trial (confirming small on_trial).answer (confirming small on_trial).flash
 trial_confirmed = met_mark confirming small on_trial
 
-pub ok_written : (confirming small on_trial).answer.ending ≡ Ending.Written
+pub ok_written : (confirming small on_trial).answer.ending ≡ Ok tt
 ok_written = allowed_confirming trial_confirmed allowed_on_trial
 
 pub ok_counted : (confirming small on_trial).answer.count ≡ 1
@@ -143,7 +142,7 @@ no_trial : (is_good (magic_of (build small) (blank 512)) && (has_value 1 (mark_o
 unfolding small base has_value is_unset is_good mark_of magic_of magic_bytes part blank same
 no_trial = refl
 
-pub not_confirmed_bare : (confirming small bare).answer.ending ≡ Ending.Written → ⊥
+pub not_confirmed_bare : (confirming small bare).answer.ending ≡ Ok tt → ⊥
 unfolding bare confirmable
 not_confirmed_bare w =
     let m = (confirming_allowed (met_mark confirming small bare) w).met in

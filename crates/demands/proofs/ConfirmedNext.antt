@@ -1,6 +1,6 @@
 -- After confirming, the next power-up decides as before, but that a revert is none: it reads in slot 0's trailer what confirming wrote there.
 -- ---- after confirming: what was a revert is none, and all else is as before
-use Rattle.std.specs.Prelude.{◌≡◌, List, Bool, ◌&&◌, ℕ, length, take}
+use Rattle.std.specs.Prelude.{◌≡◌, List, Bool, ◌&&◌, ℕ, length, take, Ok}
 use Rattle.std.proofs.Math.Path.{refl}
 use Rattle.std.proofs.Common.{sym, ap, ◌∙◌, arith}
 use Rattle.std.proofs.Math.Bool.{true, false}
@@ -21,7 +21,6 @@ use Rattle.recovery.specs.Places.{Geo, unit_small, length_mark}
 use Rattle.recovery.specs.Reading.{value_read}
 use Rattle.recovery.specs.Validity.{Valid, of_valid}
 use Rattle.recovery.specs.Begin.{with_ok, trailer_ok}
-use Rattle.answers.specs.declared.Ending.{Ending}
 use Rattle.answers.specs.declared.Marked.{Marked}
 use Rattle.marking.specs.Marking.{confirmable, confirming}
 use Rattle.demands.specs.Promise.{Marks}
@@ -73,7 +72,7 @@ module _ {g : Build} (geo : Geo g) (t0 t1 : List ℕ) where
       not_b g (with_ok g true t0) t1 t2 quiet (done_not_b g (with_ok g true t0) (ap (has_value 1) done_as_before ∙ done))
       ∙ confirmed_state s ∙ sym (ap unreverted (not_b g t0 t1 t2 quiet (done_not_b g t0 done)))
 
-pub confirmed_next : {g : Geometry} {f f' : Flash} {a : Marked} → Marks confirming g f a f' → a.ending ≡ Ending.Written
+pub confirmed_next : {g : Geometry} {f f' : Flash} {a : Marked} → Marks confirming g f a f' → a.ending ≡ Ok tt
     → asked_by g f' ≡ unreverted (asked_by g f)
 unfolding trailer
 confirmed_next {g} {f} q w =
@@ -89,7 +88,7 @@ confirmed_next {g} {f} q w =
 
 -- so no power-up reverts what was confirmed, whatever its check says
 pub confirmed_stays : (check : List ℕ → Bool) {g : Geometry} {f f' : Flash} {a : Marked} → Marks confirming g f a f'
-    → a.ending ≡ Ending.Written → decide check (build g) f' ≡ Revert → ⊥
+    → a.ending ≡ Ok tt → decide check (build g) f' ≡ Revert → ⊥
 unfolding decide judged
 confirmed_stays check {g} {f} {f'} q w h =
     go (check (take (lent_bytes (build g)).0 f'.in1)) (asked_by g f)

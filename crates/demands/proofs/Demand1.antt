@@ -24,7 +24,7 @@ use Rattle.demands.specs.Statement.{Ends, boots, stops, refuses, as_listed}
 use Rattle.demands.proofs.AsListed.{as_listed_lem}
 
 booted : (checked : Bool) (h : Header) (v : Verdict) → Ends (started checked h v)
-unfolding started judged_start refusal_number
+unfolding started judged_start
 booted checked (Err c) v = refuses Refusal.Header (omega arith) (omega arith)
 booted false (Ok t) v = boots t.header
 booted true (Ok t) (Ok tt) = boots t.header
@@ -42,7 +42,7 @@ listed_ends checked g b f course = go (ltb b (length (in_force accepted (build g
     go false = booted checked (head bytes_of_data) (check bytes_of_data)
 
 start_ends : (checked : Bool) (g : Geometry) (b : ℕ) (f : Flash) → Ends (full_start checked g b f).answer.outcome
-unfolding full_start refused refusal_number
+unfolding full_start refused
 start_ends checked g b f = go (valid (build g) f) refl (is_damage (decide accepted (build g) f)) refl
   where
     outcome : Result → Outcome

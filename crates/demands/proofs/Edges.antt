@@ -23,7 +23,7 @@ use Rattle.plan.specs.Decision.{step_a, continue, step_b, state_c, asks, judged,
 use Rattle.recovery.specs.Statement.{Due, Exchange, by_test, by_permanent, by_revert}
 use Rattle.answers.specs.declared.Answer.{Answer}
 use Rattle.answers.specs.declared.Outcome.{Outcome}
-use Rattle.answers.specs.Numbers.{refusal_number, refusal_cause, done_number, end_number, offset_number, outcome_refusal, outcome_cause, with_outcome, answer_numbers}
+use Rattle.answers.specs.Numbers.{done_number, with_outcome}
 use Rattle.loader.specs.PowerUp.{Result, judged_start, started, data_of, boot_of, ended, carried, answered, refused, is_damage, on_course, full_start}
 use Rattle.demands.specs.Statement.{as_listed}
 use Rattle.demands.proofs.AsListed.{as_listed_lem}
@@ -44,7 +44,7 @@ module _ (b : ℕ) {f : Flash} {course : Course} {p : Bool} (due : Due accepted 
   -- what was done, c, the count and the outcome of the exchange that is due
   numbered : (o : Outcome) → (full_start true small b f).answer.outcome ≡ o
       → answer true b f ≡ with_outcome (done_number (done_of course)) (found_of course) (min b (length (exchange (build small) p))) o
-  unfolding answer answer_numbers as_listed
+  unfolding answer as_listed
   numbered o e =
       let r : (full_start true small b f).answer ≡ (as_listed true small b f course).answer =
       ap (λ (x : Result). x.answer) (as_listed_lem true small b f course due.fits due.decided (undamaged due.which)) in
@@ -64,7 +64,7 @@ unfolding edges answer booted digest says header small part put blank same every
     records digests asked fits valid three_moves all_moves base steps magic_bytes trailer magic_of mark_of is_good is_no_magic is_unset has_value written legal
     header_magic records_size header_size body_size covered_size image_size number_of sizes head one_digest filled layout_of with_sizes structure digest_at
     check writes magic_ops ok_ops lines_one_two lines_three_to_six copies move_ops data_ops exchange step_a continue step_b state_c asks judged decide list_of
-    ok_unset done_of found_of refusal_number refusal_cause done_number end_number offset_number outcome_refusal outcome_cause with_outcome answer_numbers
+    ok_unset done_of found_of
     judged_start started data_of boot_of ended carried answered refused on_course full_start
 edges_hold =
     and (numbered 0 test_due_lem Outcome.Stopped (stopped 0 test_due_lem)) (and (numbered 1582 test_due_lem (Outcome.Boot 32) boots_test)

@@ -1,6 +1,6 @@
 -- After marking, the next power-up decides for test or permanent: it reads in slot 1's trailer what marking wrote there.
 -- ---- where no exchange is under way, C decides, whatever slot 1 says
-use Rattle.std.specs.Prelude.{◌≡◌, refl, List, Bool, true, false, ◌&&◌, not, ℕ, ◌+◌, ◌*◌, length, take, eqb, leb}
+use Rattle.std.specs.Prelude.{◌≡◌, refl, List, Bool, true, false, ◌&&◌, not, ℕ, ◌+◌, ◌*◌, length, take, eqb, leb, Ok}
 use Rattle.std.proofs.Common.{sym, ap, ap₂, ◌∙◌, arith}
 use Rattle.spans.specs.Bytes.{put}
 use Rattle.spans.specs.Choice.{pick, both}
@@ -25,10 +25,8 @@ use Rattle.recovery.specs.Reading.{unset_blank, unset_read}
 use Rattle.recovery.specs.Statement.{Due, Exchange, by_test, by_permanent}
 use Rattle.recovery.specs.Validity.{Valid, of_valid, valid_same}
 use Rattle.recovery.specs.Begin.{with_ok, trailer_ok, marked_good, marked_01, marked_unset}
-use Rattle.answers.specs.declared.Ending.{Ending}
 use Rattle.answers.specs.declared.Marked.{Marked}
 use Rattle.loader.specs.PowerUp.{data_of}
-use Rattle.marking.specs.declared.taken.Standing.{Standing}
 use Rattle.marking.specs.Marking.{unmarked, marking}
 use Rattle.marking.specs.Standing.{standing_of}
 use Rattle.demands.specs.Promise.{Marks}
@@ -37,21 +35,21 @@ use Rattle.demands.proofs.MarkLists.{run_marking}
 use Rattle.demands.proofs.Marking.{whole_areas, marking_ends}
 use Rattle.demands.proofs.Allowed.{marking_allowed}
 
-not_free_a : (g : Build) (t2 : List ℕ) → standing_of (step_a g t2) ≡ Standing.Free → ⊥
+not_free_a : (g : Build) (t2 : List ℕ) → standing_of (step_a g t2) ≡ Ok tt → ⊥
 unfolding standing_of
 not_free_a g t2 =
-    by_a (λ c. standing_of c ≡ Standing.Free → ⊥) (λ p h. let z : ◌≡◌ {A = ℕ} 0 1 = cc in omega arith)
+    by_a (λ c. standing_of c ≡ Ok tt → ⊥) (λ p h. let z : ◌≡◌ {A = ℕ} 0 1 = cc in omega arith)
     (λ h. let z : ◌≡◌ {A = ℕ} 0 1 = cc in omega arith) g t2
 
-pub free_scratch : (g : Build) (t0 t1 t2 : List ℕ) → standing_of (asks g t0 t1 t2) ≡ Standing.Free → is_good (magic_of g t2) ≡ false
+pub free_scratch : (g : Build) (t0 t1 t2 : List ℕ) → standing_of (asks g t0 t1 t2) ≡ Ok tt → is_good (magic_of g t2) ≡ false
 unfolding asks
 free_scratch g t0 t1 t2 = go (is_good (magic_of g t2))
   where
-    go : (a : Bool) → standing_of (pick a (step_a g t2) (step_b g t0 (state_c g t0 t1))) ≡ Standing.Free → a ≡ false
+    go : (a : Bool) → standing_of (pick a (step_a g t2) (step_b g t0 (state_c g t0 t1))) ≡ Ok tt → a ≡ false
     go true h = absurd (not_free_a g t2 h)
     go false h = refl
 
-free_c : (g : Build) (t0 t1 t1' t2 : List ℕ) → standing_of (asks g t0 t1 t2) ≡ Standing.Free → asks g t0 t1' t2 ≡ state_c g t0 t1'
+free_c : (g : Build) (t0 t1 t1' t2 : List ℕ) → standing_of (asks g t0 t1 t2) ≡ Ok tt → asks g t0 t1' t2 ≡ state_c g t0 t1'
 unfolding asks step_b continue standing_of
 free_c g t0 t1 t1' t2 =
     go (is_good (magic_of g t2)) (is_good (magic_of g t0) && is_unset (mark_of g t0 (copy_done_at g)))
@@ -63,7 +61,7 @@ free_c g t0 t1 t1' t2 =
     chosen : Bool → Bool → Bool → Bool → Bool → Course → Course
     chosen a b l z r other = pick a (step_a g t2) (pick b (pick (not l) Damage (pick z other (pick r (Resume c) Damage))) other)
 
-    go : (a b l z r : Bool) → standing_of (chosen a b l z r (state_c g t0 t1)) ≡ Standing.Free → chosen a b l z r (state_c g t0 t1')
+    go : (a b l z r : Bool) → standing_of (chosen a b l z r (state_c g t0 t1)) ≡ Ok tt → chosen a b l z r (state_c g t0 t1')
         ≡ state_c g t0 t1'
     go true b l z r h = absurd (not_free_a g t2 h)
     go false false l z r h = refl
@@ -93,7 +91,7 @@ trailer_marked {g} geo p f =
     ∙ trailer_magic geo slot1 (run_all g (ok_ops g slot1 p) f)
     ∙ ap (λ (t : List ℕ). put t (magic_at g).0 magic_bytes) (trailer_ok geo slot1 p f)
 
-pub marked_next : (p : Bool) {g : Geometry} {f f' : Flash} {a : Marked} → Marks (marking p) g f a f' → a.ending ≡ Ending.Written
+pub marked_next : (p : Bool) {g : Geometry} {f f' : Flash} {a : Marked} → Marks (marking p) g f a f' → a.ending ≡ Ok tt
     → asked_by g f' ≡ marked_for p
 unfolding unmarked trailer
 marked_next p {g} {f} q w =
@@ -128,7 +126,7 @@ data_marked g p xs =
     before_ok false = refl
 
 -- so an exchange is due if the image is accepted, and demand 3 speaks of it
-pub marked_due : (p : Bool) {g : Geometry} {f f' : Flash} {a : Marked} → Marks (marking p) g f a f' → a.ending ≡ Ending.Written
+pub marked_due : (p : Bool) {g : Geometry} {f f' : Flash} {a : Marked} → Marks (marking p) g f a f' → a.ending ≡ Ok tt
     → accepted (data_of g f.in1) ≡ true → Due accepted (build g) f' (marked_for p) p
 unfolding data_of
 marked_due p {g} {f} {f'} q w y = record {

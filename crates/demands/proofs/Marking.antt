@@ -1,6 +1,6 @@
 -- MARKING AND CONFIRMING, over what the functions promise, from any areas and any geometry: what they write is what document 01 says, byte
 -- for byte, with its count; every refusal leaves the areas as before, with count 0, and 8 is none of them.
-use Rattle.std.specs.Prelude.{◌≡◌, List, [], ◌∷◌, ◌++◌, Bool, ℕ, ◌+◌, ◌-◌, ◌/◌, length}
+use Rattle.std.specs.Prelude.{◌≡◌, List, [], ◌∷◌, ◌++◌, Bool, ℕ, ◌+◌, ◌-◌, ◌/◌, length, Ok}
 use Rattle.std.proofs.Math.Path.{refl}
 use Rattle.std.proofs.Common.{sym, subst, ◌∙◌, arith, le-ltb}
 use Rattle.std.proofs.Math.Bool.{true, false}
@@ -20,7 +20,6 @@ use Rattle.recovery.specs.Validity.{of_valid}
 use Rattle.recovery.proofs.Fresh.{Fresh, fresh_ok}
 use Rattle.recovery.proofs.Bridge.{fresh_steps}
 use Rattle.answers.specs.declared.Refusal.{Refusal}
-use Rattle.answers.specs.declared.Ending.{Ending}
 use Rattle.answers.specs.declared.Marked.{Marked}
 use Rattle.answers.specs.Numbers.{refusal_number}
 use Rattle.marking.specs.Marking.{MarkResult, refused_mark, ending_of, wrote_all, unless_refused, unmarked, mark_unless_marked, marking, confirmable, confirm_if_needed, confirming}
@@ -31,14 +30,14 @@ use Rattle.demands.specs.MarkStatement.{ok_put, magic_put, one_of, MarkEnds, wri
 use Rattle.demands.proofs.MarkLists.{fresh_marking, run_ok, run_marking}
 
 pub whole_areas : {numbers : List ℕ} {count : ℕ} {f whole f' : Flash} {a : Marked} → MarkEnds numbers count f whole a f'
-    → a.ending ≡ Ending.Written → f' ≡ whole
+    → a.ending ≡ Ok tt → f' ≡ whole
 whole_areas (writes e c h) w = h
 whole_areas (refuses r n e c h) w = absurd (let z : ◌≡◌ {A = ℕ} 0 1 = cc in omega arith)
 
 -- ---- a list whose units are erased is written whole
 
 pub fresh_wrote : (g : Geometry) (ops : List Op) (f : Flash) → Fresh (build g) ops f
-    → wrote_all g ops f ≡ record { answer = record { ending = Ending.Written; count = length ops }; flash = run_all (build g) ops f }
+    → wrote_all g ops f ≡ record { answer = record { ending = Ok tt; count = length ops }; flash = run_all (build g) ops f }
 unfolding wrote_all ending_of
 fresh_wrote g ops f h =
     let n : ℕ = length ops in
@@ -66,7 +65,7 @@ promised_ends : (what : Geometry → Flash → MarkResult) (needs count : ℕ) (
     (otherwise : MarkResult) → Marks what g f a f' → what g f ≡ unless_refused g f otherwise
     → ((geo : Geo (build g)) → Ends (1 ∷ 2 ∷ 6 ∷ needs ∷ []) count f whole otherwise)
     → MarkEnds (1 ∷ 2 ∷ 6 ∷ needs ∷ []) count f whole a f'
-unfolding Ends one_of refusal_number
+unfolding Ends one_of
 promised_ends what needs count f whole {g} otherwise q e h =
     let numbers : List ℕ = 1 ∷ 2 ∷ 6 ∷ needs ∷ [] in
     subst (Ends numbers count f whole) (sym (q.promised ∙ e))
@@ -89,7 +88,7 @@ unmarked_fresh p g geo f u =
 pub marking_ends : (p : Bool) {g : Geometry} {f f' : Flash} {a : Marked} → Marks (marking p) g f a f'
     → MarkEnds (1 ∷ 2 ∷ 6 ∷ 5 ∷ []) (16 / g.unit + one_if p) f
     (flash_of f.in0 (magic_put (build g) slot1 (ok_put (build g) slot1 p f.in1)) f.in2) a f'
-unfolding marking mark_unless_marked one_of refusal_number base
+unfolding marking mark_unless_marked one_of base
 marking_ends p {g} {f} q =
     let ops : List Op = ok_ops (build g) slot1 p ++ magic_ops (build g) slot1 in
     let whole : Flash = flash_of f.in0 (magic_put (build g) slot1 (ok_put (build g) slot1 p f.in1)) f.in2 in
@@ -118,7 +117,7 @@ confirmable_fresh g geo f c =
 -- "Confirming: 1, 2, 6, 7."
 pub confirming_ends : {g : Geometry} {f f' : Flash} {a : Marked} → Marks confirming g f a f'
     → MarkEnds (1 ∷ 2 ∷ 6 ∷ 7 ∷ []) 1 f (flash_of (ok_put (build g) slot0 true f.in0) f.in1 f.in2) a f'
-unfolding confirming confirm_if_needed one_of refusal_number
+unfolding confirming confirm_if_needed one_of
 confirming_ends {g} {f} q =
     let whole : Flash = flash_of (ok_put (build g) slot0 true f.in0) f.in1 f.in2 in
     promised_ends confirming 7 1 f whole (confirm_if_needed g f) q refl (λ geo.

@@ -1,5 +1,5 @@
 -- What the theorems about marking and confirming speak of: what is written, how they end, when they are allowed, and what comes next.
-use Rattle.std.specs.Prelude.{◌≡◌, List, [], ◌∷◌, Bool, true, false, ◌||◌, ℕ, eqb}
+use Rattle.std.specs.Prelude.{◌≡◌, List, [], ◌∷◌, Bool, true, false, ◌||◌, ℕ, eqb, Ok, Err}
 use Rattle.spans.specs.Bytes.{put}
 use Rattle.spans.specs.Choice.{pick}
 use Rattle.flash.specs.declared.Geometry.{Geometry}
@@ -11,10 +11,8 @@ use Rattle.plan.specs.declared.Course.TheVariants.{Damage, FromLineThree, Resume
 use Rattle.plan.specs.Lists.{place_in}
 use Rattle.plan.specs.Asked.{asked_by}
 use Rattle.answers.specs.declared.Refusal.{Refusal}
-use Rattle.answers.specs.declared.Ending.{Ending}
 use Rattle.answers.specs.declared.Marked.{Marked}
 use Rattle.answers.specs.Numbers.{refusal_number}
-use Rattle.marking.specs.declared.taken.Standing.{Standing}
 use Rattle.marking.specs.Standing.{standing_of}
 
 -- the bytes of an area with image ok 01 in its trailer, if there is to be one; and with magic
@@ -33,14 +31,14 @@ one_of (x ∷ xs) n = eqb n x || one_of xs n
 -- From the areas f: all is written, `count` operations, and the areas are `whole`; or the answer is a refusal with one of the `numbers`,
 -- count 0, and the areas are as before.
 pub data MarkEnds (numbers : List ℕ) (count : ℕ) (f whole : Flash) (a : Marked) (f' : Flash) : Type 0 where
-  writes : a.ending ≡ Ending.Written → a.count ≡ count → f' ≡ whole → MarkEnds numbers count f whole a f'
-  refuses : (r : Refusal) → one_of numbers (refusal_number r) ≡ true → a.ending ≡ Ending.Refused r → a.count ≡ 0 → f' ≡ f
+  writes : a.ending ≡ Ok tt → a.count ≡ count → f' ≡ whole → MarkEnds numbers count f whole a f'
+  refuses : (r : Refusal) → one_of numbers (refusal_number r) ≡ true → a.ending ≡ Err r → a.count ≡ 0 → f' ≡ f
       → MarkEnds numbers count f whole a f'
 
 -- what document 01 asks before anything is written
 pub record Allowed (g : Geometry) (f : Flash) (needs : Bool) : Type 0 where
   pub fits : valid (build g) f ≡ true
-  pub free : standing_of (asked_by g f) ≡ Standing.Free
+  pub free : standing_of (asked_by g f) ≡ Ok tt
   pub met : needs ≡ true
 
 -- the course that a mark asks for

@@ -1,52 +1,38 @@
-// A plain start's answer as the words of document 01's line: what was done, c as found, the count, then how it ended and its number.
-// An error of a function here is that of a write, which comes before any further one.
+// A plain start's answer as document 01's line: what was done, c as found, the count, then how it ended and its number.
 #![tactic(auto)]
 
-use answers::numbers::Numbers;
-use std::io;
+use answers::{Answer, Outcome};
+use plan::Done;
+use std::fmt;
 
-pub fn write(out: &impl Print, text: &[u8]) -> io::Result<()> {
-    out.write_all(text)
-}
+#[derive(Clone, Copy)]
+pub struct Line(pub Answer);
 
-fn write_done(out: &impl Print, done: u64) -> io::Result<()> {
+fn word(done: Done) -> &'static str {
     match done {
-        0 => write(out, b"none"),
-        1 => write(out, b"test"),
-        2 => write(out, b"permanent"),
-        3 => write(out, b"revert"),
-        4 => write(out, b"resumed"),
-        _ => write(out, b"cleared"),
+        Done::None => "none",
+        Done::Test => "test",
+        Done::Permanent => "permanent",
+        Done::Revert => "revert",
+        Done::Resumed => "resumed",
+        Done::Cleared => "cleared",
     }
 }
 
-// A space and a number.
-fn write_number(out: &impl Print, number: u64) -> io::Result<()> {
-    print!(out; " {number}")
-}
-
-fn write_end(out: &impl Print, answer: Numbers) -> io::Result<()> {
-    let end = answer.end;
-    match end {
-        0 => {
-            write(out, b" boot")?;
-            write_number(out, answer.offset)
-        }
-        1 => {
-            write(out, b" stopped")?;
-            write_number(out, 0)
-        }
-        _ => {
-            write(out, b" refused")?;
-            write_number(out, answer.refusal)
+impl fmt::Display for Line {
+    fn fmt<W: fmt::Write>(&self, f: &mut fmt::Formatter<W>) -> fmt::Result {
+        let answer = self.0;
+        write!(
+            f,
+            "{} {} {} ",
+            word(answer.done),
+            answer.found,
+            answer.count
+        )?;
+        match answer.outcome {
+            Outcome::Boot(offset) => write!(f, "boot {offset}"),
+            Outcome::Stopped => write!(f, "stopped 0"),
+            Outcome::Refused(refusal) => write!(f, "refused {}", u64::from(refusal)),
         }
     }
-}
-
-// The five words, without a line end.
-pub fn write_answer(out: &impl Print, answer: Numbers) -> io::Result<()> {
-    write_done(out, answer.done)?;
-    write_number(out, answer.found)?;
-    write_number(out, answer.count)?;
-    write_end(out, answer)
 }

@@ -14,7 +14,7 @@ use Rattle.causes.specs.Edges.{header, body, digest}
 use Rattle.plan.specs.Lists.{ok_ops, erases, clear_out}
 use Rattle.plan.specs.Decision.{step_a, continue, step_b, state_c, asks, judged, decide, list_of, ok_unset, done_of, found_of}
 use Rattle.answers.specs.declared.numbers.Numbers.{Numbers}
-use Rattle.answers.specs.Numbers.{refusal_number, refusal_cause, done_number, end_number, offset_number, outcome_refusal, outcome_cause, with_outcome, answer_numbers}
+use Rattle.answers.specs.Numbers.{answer_numbers}
 use Rattle.loader.specs.PowerUp.{started, data_of, boot_of, ended, carried, answered, refused, on_course, full_start, power_up}
 
 flash : List ℕ → List ℕ → List ℕ → Flash
@@ -61,8 +61,8 @@ pub edges_hold : Holds edges
 unfolding edges flash answer says of_erased slot small header body digest part put blank same every little field asked fits valid three_moves
     all_moves base attempt erase_in write_in step steps magic_bytes trailer magic_of mark_of is_good is_no_magic is_unset has_value written legal
     mark_bytes header_magic records_size header_size body_size covered_size image_size sizes head with_sizes structure digest_at check is_accepted
-    accepted ok_ops erases clear_out step_a continue step_b state_c asks judged decide list_of ok_unset done_of found_of refusal_number refusal_cause
-    done_number end_number offset_number outcome_refusal outcome_cause with_outcome answer_numbers started data_of boot_of ended carried answered
+    accepted ok_ops erases clear_out step_a continue step_b state_c asks judged decide list_of ok_unset done_of found_of
+    started data_of boot_of ended carried answered
     refused on_course full_start power_up
 edges_hold =
     and refl (and refl (and refl (and refl (and refl (and refl (and refl (and refl (and refl (and refl (and refl

@@ -1,5 +1,5 @@
 -- Laws for the code of marking and confirming.
-use Rattle.std.specs.Prelude.{◌≡◌, Bool, true, false, ℕ, ◌-◌, length}
+use Rattle.std.specs.Prelude.{◌≡◌, Err, Bool, true, false, ℕ, ◌-◌, length}
 use Rattle.std.proofs.Common.{sym, ◌∙◌}
 use Rattle.std.proofs.Math.Path.{ap}
 use mathlib.Core.List.{List, [], ◌++◌}
@@ -15,7 +15,6 @@ use Rattle.plan.specs.Asked.{flash_of}
 use Rattle.moves.specs.Areas.{state}
 use Rattle.writes.specs.InArea.{ok_in, magic_in}
 use Rattle.answers.specs.declared.Refusal.{Refusal}
-use Rattle.answers.specs.declared.Ending.{Ending}
 use Rattle.answers.specs.declared.Marked.{Marked}
 use Rattle.marking.specs.Marking.{mark_result, refused_mark, ending_of, wrote_all, unmarked, mark_unless_marked, confirmable, confirm_if_needed}
 use Rattle.marking.specs.MarkResults.{refusing_mark}
@@ -37,7 +36,7 @@ module _ (g : Geometry) (x0 x1 x2 : List ℕ) (a : Marked) where
       (h.0, h.1 ∙ ap (λ (b : ℕ). b - r.left) n)
       ∙ ap (λ (b : Bool). pick b (wrote_all g ops f) (refused_mark Refusal.Marks f)) (sym u)
 
-  pub marks_refused : (p : Bool) → unmarked g (flash_of [] x1 []) ≡ false → (a.ending ≡ Ending.Refused Refusal.Marks) × (a.count ≡ 0)
+  pub marks_refused : (p : Bool) → unmarked g (flash_of [] x1 []) ≡ false → (a.ending ≡ Err Refusal.Marks) × (a.count ≡ 0)
       → mark_result a (flash_of x0 x1 x2) ≡ mark_unless_marked p g (flash_of x0 x1 x2)
   unfolding mark_unless_marked unmarked trailer
   marks_refused p u h =
@@ -54,7 +53,7 @@ module _ (g : Geometry) (x0 x1 x2 : List ℕ) (a : Marked) where
       wrote g a (ok_ops (build g) slot0 true) f (state x0' x1 x2 r) (confirmed_state g x0 x1 x2 1 x0' r e) h
       ∙ ap (λ (b : Bool). pick b (wrote_all g (ok_ops (build g) slot0 true) f) (refused_mark Refusal.Needs f)) (sym u)
 
-  pub confirm_refused : confirmable g (flash_of x0 [] []) ≡ false → (a.ending ≡ Ending.Refused Refusal.Needs) × (a.count ≡ 0)
+  pub confirm_refused : confirmable g (flash_of x0 [] []) ≡ false → (a.ending ≡ Err Refusal.Needs) × (a.count ≡ 0)
       → mark_result a (flash_of x0 x1 x2) ≡ confirm_if_needed g (flash_of x0 x1 x2)
   unfolding confirm_if_needed confirmable trailer
   confirm_refused u h =

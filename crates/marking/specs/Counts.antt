@@ -1,6 +1,6 @@
 -- Document 01, "Marking and confirming": "each answers its count". What is said to be written is the whole list: no run of `wrote_all` ends
 -- Stopped, since its allowance is the length of its list.
-use Rattle.std.specs.Prelude.{◌≡◌, refl, List, [], ◌∷◌, Bool, true, false, ℕ, suc, ◌-◌, length}
+use Rattle.std.specs.Prelude.{◌≡◌, refl, Ok, List, [], ◌∷◌, Bool, true, false, ℕ, suc, ◌-◌, length}
 use Rattle.std.proofs.Common.{arith, ne_eqb}
 use Rattle.spans.specs.Bytes.{put, blank}
 use Rattle.spans.specs.Choice.{pick}
@@ -15,8 +15,6 @@ use Rattle.plan.specs.declared.Course.{Course}
 use Rattle.plan.specs.declared.Course.TheVariants.{Damage, FromLineThree, Resume, Test, Permanent, Revert, Clear, Nothing}
 use Rattle.plan.specs.Asked.{asked_by}
 use Rattle.answers.specs.declared.Refusal.{Refusal}
-use Rattle.answers.specs.declared.Ending.{Ending}
-use Rattle.marking.specs.declared.taken.Standing.{Standing}
 use Rattle.marking.specs.Marking.{MarkResult, refused_mark, ending_of, wrote_all, unless_under_way, unless_refused}
 use Rattle.marking.specs.Standing.{standing_of}
 
@@ -47,12 +45,12 @@ unfolding steps
 steps_enough g [] s h = h
 steps_enough g (op ∷ ops) s h = steps_enough g ops (step g op s) (step_enough g op s.flash h)
 
-pub written_whole : (g : Geometry) (ops : List Op) (f : Flash) → (wrote_all g ops f).answer.ending ≡ Ending.Written
+pub written_whole : (g : Geometry) (ops : List Op) (f : Flash) → (wrote_all g ops f).answer.ending ≡ Ok tt
     → (wrote_all g ops f).answer.count ≡ length ops
 unfolding wrote_all ending_of
 written_whole g ops f = go (steps_enough (build g) ops (start (length ops) f) enough)
   where
-    go : {r : Run} → Enough 0 r → ending_of r.end ≡ Ending.Written → length ops - r.left ≡ length ops
+    go : {r : Run} → Enough 0 r → ending_of r.end ≡ Ok tt → length ops - r.left ≡ length ops
     go enough h = omega arith
     go unerased h = absurd (let z : ◌≡◌ {A = ℕ} 0 1 = cc in omega arith)
 
@@ -60,7 +58,7 @@ written_whole g ops f = go (steps_enough (build g) ops (start (length ops) f) en
 
 pub by_refusals : (P : MarkResult → Type 0) (g : Geometry) (f : Flash) (otherwise : MarkResult)
     → P (refused_mark Refusal.Geometry f) → P (refused_mark Refusal.Damage f) → P (refused_mark Refusal.UnderWay f)
-    → (valid (build g) f ≡ true → standing_of (asked_by g f) ≡ Standing.Free → P otherwise) → P (unless_refused g f otherwise)
+    → (valid (build g) f ≡ true → standing_of (asked_by g f) ≡ Ok tt → P otherwise) → P (unless_refused g f otherwise)
 unfolding unless_refused unless_under_way standing_of
 by_refusals P g f otherwise one two six none = fitting (valid (build g) f) refl
   where

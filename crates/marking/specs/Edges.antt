@@ -12,7 +12,7 @@ use Rattle.plan.specs.Lists.{writes, magic_ops, ok_ops}
 use Rattle.plan.specs.Decision.{step_a, continue, step_b, state_c, asks}
 use Rattle.plan.specs.Asked.{flash_of}
 use Rattle.answers.specs.declared.numbers.MarkNumbers.{MarkNumbers}
-use Rattle.answers.specs.Numbers.{refusal_number, ending_refusal, marked_numbers}
+use Rattle.answers.specs.Numbers.{marked_numbers}
 use Rattle.marking.specs.Marking.{MarkResult, refused_mark, ending_of, wrote_all, unless_under_way, unless_refused, unmarked, mark_unless_marked, marking, confirmable, confirm_if_needed, confirming}
 
 -- a call of one of the three, with units of w bytes: the refusal's number (0 for none), the count, and the areas
@@ -77,7 +77,7 @@ done =
 
 pub done_hold : Holds done
 unfolding done succeeds call says test permanent area clean good trial confirmed marking confirming unless_refused unless_under_way
-    mark_unless_marked unmarked confirm_if_needed confirmable wrote_all ending_of refused_mark marked_numbers ending_refusal refusal_number valid fits
+    mark_unless_marked unmarked confirm_if_needed confirmable wrote_all ending_of refused_mark valid fits
     asked every asks step_a step_b continue state_c written legal has_value is_unset is_no_magic is_good mark_of mark_bytes magic_of trailer magic_bytes
     writes magic_ops ok_ops attempt erased write_in step steps base three_moves all_moves put part blank same
 done_hold = and refl (and refl (and refl (and refl (and refl no_more))))
@@ -111,8 +111,8 @@ refused =
 
 pub refused_hold : Holds refused
 unfolding refused refuses call says test permanent area clean good trial confirmed moving damaged half_marked marking confirming
-    unless_refused unless_under_way mark_unless_marked unmarked confirm_if_needed confirmable wrote_all ending_of refused_mark marked_numbers
-    ending_refusal refusal_number valid fits asked every asks step_a step_b continue state_c written legal has_value is_unset is_no_magic is_good mark_of
+    unless_refused unless_under_way mark_unless_marked unmarked confirm_if_needed confirmable wrote_all ending_of refused_mark
+    valid fits asked every asks step_a step_b continue state_c written legal has_value is_unset is_no_magic is_good mark_of
     mark_bytes magic_of trailer magic_bytes writes magic_ops ok_ops attempt erased write_in step steps base three_moves all_moves put part blank same
 refused_hold =
     and refl (and refl (and refl (and refl (and refl (and refl (and refl (and refl (and refl (and refl (and refl (and refl

@@ -1,5 +1,5 @@
 -- Laws for the code of marking and confirming.
-use Rattle.std.specs.Prelude.{◌≡◌, refl, Bool, true, ℕ, ◌+◌, ◌-◌, ◌≤◌, length}
+use Rattle.std.specs.Prelude.{◌≡◌, refl, Result, Ok, Err, ⊤, Bool, true, ℕ, ◌+◌, ◌-◌, ◌≤◌, length}
 use Rattle.std.proofs.Common.{sym, ◌∙◌, arith, length-append}
 use Rattle.std.proofs.Math.Path.{ap}
 use mathlib.Core.List.{List, ◌++◌}
@@ -18,7 +18,6 @@ use Rattle.moves.specs.Areas.{state}
 use Rattle.writes.specs.InArea.{ok_in, magic_in, steps_ok, steps_marked}
 use Rattle.answers.specs.declared.Refusal.{Refusal}
 use Rattle.answers.specs.declared.Marked.{Marked}
-use Rattle.marking.specs.declared.taken.Standing.{Standing}
 use Rattle.marking.specs.Marking.{MarkResult, mark_result, refused_mark, ending_of, wrote_all, unless_under_way}
 use Rattle.marking.specs.Standing.{standing_of, by_standing, standing_says}
 
@@ -51,10 +50,10 @@ left_of g ops s b f e = omega (arith, ap (λ (x : State). x.run.left) e, steps_l
 -- ---- by how things stand
 
 module _ (c : Course) (f : Flash) (otherwise : MarkResult) where
-  pub stands_free : standing_of c ≡ Standing.Free → otherwise ≡ unless_under_way c f otherwise
+  pub stands_free : standing_of c ≡ Ok tt → otherwise ≡ unless_under_way c f otherwise
   unfolding by_standing
-  stands_free e = ap (λ (s : Standing). by_standing s f otherwise) (sym e) ∙ standing_says c f otherwise
+  stands_free e = ap (λ (s : Result ⊤ Refusal). by_standing s f otherwise) (sym e) ∙ standing_says c f otherwise
 
-  pub stands_refused : (r : Refusal) → standing_of c ≡ Standing.Refused r → refused_mark r f ≡ unless_under_way c f otherwise
+  pub stands_refused : (r : Refusal) → standing_of c ≡ Err r → refused_mark r f ≡ unless_under_way c f otherwise
   unfolding by_standing
-  stands_refused r e = ap (λ (s : Standing). by_standing s f otherwise) (sym e) ∙ standing_says c f otherwise
+  stands_refused r e = ap (λ (s : Result ⊤ Refusal). by_standing s f otherwise) (sym e) ∙ standing_says c f otherwise

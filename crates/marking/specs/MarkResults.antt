@@ -1,13 +1,12 @@
 -- Refusals of marking and confirming, as code answers them.
-use Rattle.std.specs.Prelude.{◌≡◌, refl}
+use Rattle.std.specs.Prelude.{◌≡◌, refl, Err}
 use Rattle.std.proofs.Common.{◌∙◌}
 use Rattle.flash.specs.Build.{Flash}
 use Rattle.answers.specs.declared.Refusal.{Refusal}
-use Rattle.answers.specs.declared.Ending.{Ending}
 use Rattle.answers.specs.declared.Marked.{Marked}
 use Rattle.marking.specs.Marking.{mark_result, refused_mark}
 
-pub refusing_mark : (a : Marked) (r : Refusal) (f : Flash) → (a.ending ≡ Ending.Refused r) × (a.count ≡ 0) → mark_result a f
+pub refusing_mark : (a : Marked) (r : Refusal) (f : Flash) → (a.ending ≡ Err r) × (a.count ≡ 0) → mark_result a f
     ≡ refused_mark r f
 unfolding refused_mark
 refusing_mark a r f e =

@@ -1,5 +1,5 @@
 -- Document 01, "Marking and confirming".
-use Rattle.std.specs.Prelude.{List, ◌++◌, Bool, true, ◌&&◌, ◌-◌, length}
+use Rattle.std.specs.Prelude.{Result, Ok, Err, ⊤, List, ◌++◌, Bool, true, ◌&&◌, ◌-◌, length}
 use Rattle.spans.specs.Choice.{pick}
 use Rattle.flash.specs.declared.Geometry.{Geometry}
 use Rattle.flash.specs.declared.End.{End}
@@ -12,7 +12,6 @@ use Rattle.plan.specs.declared.Course.TheVariants.{Damage, FromLineThree, Resume
 use Rattle.plan.specs.Lists.{ok_ops, magic_ops}
 use Rattle.plan.specs.Asked.{asked_by}
 use Rattle.answers.specs.declared.Refusal.{Refusal}
-use Rattle.answers.specs.declared.Ending.{Ending}
 use Rattle.answers.specs.declared.Marked.{Marked}
 
 pub record MarkResult : Type 0 where
@@ -24,14 +23,14 @@ abbrev pub mark_result : Marked → Flash → MarkResult
 mark_result a f = record { answer = a; flash = f }
 
 unfoldable pub refused_mark : Refusal → Flash → MarkResult
-refused_mark r f = record { answer = record { ending = Ending.Refused r; count = 0 }; flash = f }
+refused_mark r f = record { answer = record { ending = Err r; count = 0 }; flash = f }
 
 -- 8: "a unit to be written is not erased", after the counted operations. Neither it nor Stopped comes: the allowance is the list's length
 -- (`written_whole`), and what is written was Unset (`marking_ends`, `confirming_ends` of crate `demands`).
-unfoldable pub ending_of : End → Ending
-ending_of End.Going = Ending.Written
-ending_of End.Stopped = Ending.Written
-ending_of End.Unerased = Ending.Refused Refusal.Unerased
+unfoldable pub ending_of : End → Result ⊤ Refusal
+ending_of End.Going = Ok tt
+ending_of End.Stopped = Ok tt
+ending_of End.Unerased = Err Refusal.Unerased
 
 -- "Neither takes an allowance; each answers its count": all of the list is carried out
 unfoldable pub wrote_all : Geometry → List Op → Flash → MarkResult

@@ -1,25 +1,24 @@
 -- Refusals 2 and 6 of marking and confirming, as code asks for them.
-use Rattle.std.specs.Prelude.{◌≡◌, refl}
+use Rattle.std.specs.Prelude.{◌≡◌, refl, Result, Ok, Err, ⊤}
 use Rattle.flash.specs.Build.{Flash}
 use Rattle.plan.specs.declared.Course.{Course}
 use Rattle.plan.specs.declared.Course.TheVariants.{Damage, FromLineThree, Resume, Test, Permanent, Revert, Clear, Nothing}
 use Rattle.answers.specs.declared.Refusal.{Refusal}
-use Rattle.marking.specs.declared.taken.Standing.{Standing}
 use Rattle.marking.specs.Marking.{MarkResult, refused_mark, unless_under_way}
 
-unfoldable pub standing_of : Course → Standing
-standing_of Damage = Standing.Refused Refusal.Damage
-standing_of (FromLineThree p) = Standing.Refused Refusal.UnderWay
-standing_of (Resume c) = Standing.Refused Refusal.UnderWay
-standing_of Test = Standing.Free
-standing_of Permanent = Standing.Free
-standing_of Revert = Standing.Free
-standing_of Clear = Standing.Free
-standing_of Nothing = Standing.Free
+unfoldable pub standing_of : Course → Result ⊤ Refusal
+standing_of Damage = Err Refusal.Damage
+standing_of (FromLineThree p) = Err Refusal.UnderWay
+standing_of (Resume c) = Err Refusal.UnderWay
+standing_of Test = Ok tt
+standing_of Permanent = Ok tt
+standing_of Revert = Ok tt
+standing_of Clear = Ok tt
+standing_of Nothing = Ok tt
 
-unfoldable pub by_standing : Standing → Flash → MarkResult → MarkResult
-by_standing Standing.Free f otherwise = otherwise
-by_standing (Standing.Refused r) f otherwise = refused_mark r f
+unfoldable pub by_standing : Result ⊤ Refusal → Flash → MarkResult → MarkResult
+by_standing (Ok x) f otherwise = otherwise
+by_standing (Err r) f otherwise = refused_mark r f
 
 pub standing_says : (c : Course) (f : Flash) (otherwise : MarkResult) → by_standing (standing_of c) f otherwise ≡ unless_under_way c f otherwise
 unfolding standing_of by_standing unless_under_way

@@ -5,7 +5,7 @@ ghost use Rattle.std.specs.Prelude.{◌≡◌};
 ghost use Rattle.plan.specs.Asked.{flash_of};
 ghost use Rattle.marking.specs.Marking.{mark_result, marking, confirming};
 
-use answers::{Marked, Refusal};
+use answers::Marked;
 use flash::Geometry;
 
 mod taken;
@@ -15,10 +15,9 @@ pub fn mark(g: Geometry, slot0: &[u8], slot1: &mut [u8], scratch: &[u8], permane
     ensures { mark_result result (flash_of slot0.now slot1.new scratch.now)
         ≡ marking permanent g (flash_of slot0.now slot1.old scratch.now) }
 {
-    if fit::taken(g, slot0.len(), slot1.len(), scratch.len()) {
-        taken::mark_taken(g, slot0, slot1, scratch, permanent)
-    } else {
-        taken::refuse(Refusal::Geometry)
+    match taken::standing(g, slot0, slot1, scratch) {
+        Ok(()) => taken::mark_free(g, slot1, permanent),
+        Err(refusal) => taken::refuse(refusal),
     }
 }
 
@@ -27,9 +26,8 @@ pub fn confirm(g: Geometry, slot0: &mut [u8], slot1: &[u8], scratch: &[u8]) -> M
     ensures { mark_result result (flash_of slot0.new slot1.now scratch.now)
         ≡ confirming g (flash_of slot0.old slot1.now scratch.now) }
 {
-    if fit::taken(g, slot0.len(), slot1.len(), scratch.len()) {
-        taken::confirm_taken(g, slot0, slot1, scratch)
-    } else {
-        taken::refuse(Refusal::Geometry)
+    match taken::standing(g, slot0, slot1, scratch) {
+        Ok(()) => taken::confirm_free(g, slot0),
+        Err(refusal) => taken::refuse(refusal),
     }
 }

@@ -24,10 +24,10 @@ abbrev pub numbered : {N : Type 0} → N → Flash → Numbered N
 numbered n f = record { numbers = n; flash = f }
 
 -- "a definition gives this paper's number and values for each of its cases. The promises use that definition."
-unfoldable pub start_numbered : Result → Numbered Numbers
+abbrev pub start_numbered : Result → Numbered Numbers
 start_numbered r = numbered (answer_numbers r.answer) r.flash
 
-unfoldable pub mark_numbered : MarkResult → Numbered MarkNumbers
+abbrev pub mark_numbered : MarkResult → Numbered MarkNumbers
 mark_numbered r = numbered (marked_numbers r.answer) r.flash
 
 -- "for any pair of answers allowed by it, equality is proved": whatever a promise has a call come to, any two pairs of numbers and areas
@@ -39,10 +39,8 @@ one_numbered {N} p q = (ap (λ (x : Numbered N). x.numbers) (p ∙ sym q), ap (�
 -- ---- laws for the code: the answer in numbers, beside the areas that it left
 
 pub start_told : (a : Answer) (n : Numbers) (f : Flash) (r : Result) → n ≡ answer_numbers a → result_of a f ≡ r → numbered n f ≡ start_numbered r
-unfolding start_numbered
 start_told a n f r told left = cc
 
 pub mark_told : (a : Marked) (n : MarkNumbers) (f : Flash) (r : MarkResult) → n ≡ marked_numbers a → mark_result a f ≡ r
     → numbered n f ≡ mark_numbered r
-unfolding mark_numbered
 mark_told a n f r told left = cc

@@ -11,7 +11,6 @@ ghost use Rattle.plan.specs.Asked.{flash_of};
 ghost use Rattle.scale.specs.Boundary.{geometry_of, numbered, start_numbered, mark_numbered};
 ghost use Rattle.fips.specs.Fips.{sha256};
 
-use answers::numbers;
 use answers::numbers::{MarkNumbers, Numbers};
 use flash::Geometry;
 use record_reader::numbers::RecordNumbers;
@@ -37,6 +36,16 @@ pub fn scale_record_at(records: &[u8], at: usize) -> RecordNumbers
     record_reader::numbers::of_step(record_reader::record_at(records, at))
 }
 
+fn geometry(unit: usize, sector: usize, sectors: usize) -> Geometry
+    ensures { result ≡ geometry_of unit sector sectors }
+{
+    Geometry {
+        unit,
+        sector,
+        sectors,
+    }
+}
+
 // The plain start.
 pub fn scale_power_up(
     unit: usize,
@@ -51,12 +60,8 @@ pub fn scale_power_up(
         ≡ start_numbered (power_up (geometry_of unit sector sectors) allowance
         (flash_of slot0.old slot1.old scratch.old)) }
 {
-    let g = Geometry {
-        unit,
-        sector,
-        sectors,
-    };
-    numbers::of_answer(loader::power_up(g, slot0, slot1, scratch, allowance))
+    let g = geometry(unit, sector, sectors);
+    Numbers::from(loader::power_up(g, slot0, slot1, scratch, allowance))
 }
 
 // The full start.
@@ -74,12 +79,8 @@ pub fn scale_full_start(
         ≡ start_numbered (full_start checked (geometry_of unit sector sectors) allowance
         (flash_of slot0.old slot1.old scratch.old)) }
 {
-    let g = Geometry {
-        unit,
-        sector,
-        sectors,
-    };
-    numbers::of_answer(loader::full_start(g, slot0, slot1, scratch, allowance, checked))
+    let g = geometry(unit, sector, sectors);
+    Numbers::from(loader::full_start(g, slot0, slot1, scratch, allowance, checked))
 }
 
 // Marks slot 1.
@@ -96,12 +97,8 @@ pub fn scale_mark(
         ≡ mark_numbered (marking permanent (geometry_of unit sector sectors)
         (flash_of slot0.now slot1.old scratch.now)) }
 {
-    let g = Geometry {
-        unit,
-        sector,
-        sectors,
-    };
-    numbers::of_marked(marking::mark(g, slot0, slot1, scratch, permanent))
+    let g = geometry(unit, sector, sectors);
+    MarkNumbers::from(marking::mark(g, slot0, slot1, scratch, permanent))
 }
 
 // Confirms slot 0.
@@ -117,10 +114,6 @@ pub fn scale_confirm(
         ≡ mark_numbered (confirming (geometry_of unit sector sectors)
         (flash_of slot0.old slot1.now scratch.now)) }
 {
-    let g = Geometry {
-        unit,
-        sector,
-        sectors,
-    };
-    numbers::of_marked(marking::confirm(g, slot0, slot1, scratch))
+    let g = geometry(unit, sector, sectors);
+    MarkNumbers::from(marking::confirm(g, slot0, slot1, scratch))
 }

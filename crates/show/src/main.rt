@@ -2,72 +2,48 @@
 // A read or a write that fails ends it with that error; what the input holds never does.
 #![tactic(auto)]
 
+use answers::{Answer, Outcome, Refusal};
 use flash::Geometry;
+use line::Line;
+use plan::Done;
 use std::io;
 use std::io::{ErrorKind, Read};
 
-// Whether the input fills the area, or ends before that.
-fn fills(input: &mut impl Read, area: &mut [u8]) -> io::Result<bool> {
-    match input.read_exact(area) {
+const AREA: usize = 1024;
+
+// Whether the input fills the bytes, or ends before that.
+fn fills(input: &mut impl Read, bytes: &mut [u8]) -> io::Result<bool> {
+    match input.read_exact(bytes) {
         Ok(()) => Ok(true),
         Err(e) if e.kind() == ErrorKind::UnexpectedEof => Ok(false),
         Err(e) => Err(e),
     }
 }
 
-fn ends(input: &mut impl Read) -> io::Result<bool> {
-    let mut more = [0u8; 1];
-    Ok(!fills(input, &mut more)?)
-}
-
-fn fills_all(
-    input: &mut impl Read,
-    slot0: &mut [u8],
-    slot1: &mut [u8],
-    scratch: &mut [u8],
-) -> io::Result<bool> {
-    if fills(input, slot0)? {
-        if fills(input, slot1)? {
-            return fills(input, scratch);
-        }
-    }
-    Ok(false)
-}
-
-fn start(
-    out: &impl Print,
-    slot0: &mut [u8],
-    slot1: &mut [u8],
-    scratch: &mut [u8],
-) -> io::Result<()> {
+fn start(dump: &mut [u8; 3 * AREA]) -> Answer {
     let g = Geometry {
         unit: 1,
         sector: 512,
         sectors: 2,
     };
-    let answer = loader::power_up(g, slot0, slot1, scratch, 4000);
-    line::write_answer(out, answers::numbers::of_answer(answer))?;
-    line::write(out, b"\n")
-}
-
-fn show(
-    rt: &(impl Input + Print),
-    slot0: &mut [u8],
-    slot1: &mut [u8],
-    scratch: &mut [u8],
-) -> io::Result<()> {
-    let mut input = rt.reader();
-    if fills_all(&mut input, slot0, slot1, scratch)? {
-        if ends(&mut input)? {
-            return start(rt, slot0, slot1, scratch);
-        }
-    }
-    line::write(rt, b"none 0 0 refused 1\n")
+    let (slot0, rest) = dump.split_at_mut(AREA);
+    let (slot1, scratch) = rest.split_at_mut(AREA);
+    loader::power_up(g, slot0, slot1, scratch, 4000)
 }
 
 fn main(rt: HostRuntime) -> io::Result<()> {
-    let mut slot0 = [0u8; 1024];
-    let mut slot1 = [0u8; 1024];
-    let mut scratch = [0u8; 1024];
-    show(&rt, &mut slot0, &mut slot1, &mut scratch)
+    let mut input = rt.reader();
+    let mut dump = [0u8; 3 * AREA];
+    let whole = fills(&mut input, &mut dump)? && !fills(&mut input, &mut [0])?;
+    let answer = if whole {
+        start(&mut dump)
+    } else {
+        Answer {
+            done: Done::None,
+            found: 0,
+            count: 0,
+            outcome: Outcome::Refused(Refusal::Geometry),
+        }
+    };
+    println!(rt; "{}", Line(answer))
 }

@@ -1,44 +1,20 @@
-use Rattle.std.proofs.Common.{Bool, ap, false, length, sym, true, ◌∙◌, ◌≡◌}
-use Rattle.marking.specs.Marking.{refused_mark, unless_under_way, unless_refused, confirm_if_needed, confirming}
+use Rattle.std.proofs.Common.{◌∙◌}
+use Rattle.plan.specs.Asked.{flash_of}
+use Rattle.marking.specs.Marking.{confirm_if_needed, confirming}
 use Rattle.marking.specs.MarkResults.{refusing_mark}
-use Rattle.spans.specs.Choice.{pick}
-use Rattle.flash.specs.Build.{fits, valid}
-use Rattle.flash.specs.Base.{build}
-use Rattle.fit.specs.Taken.{small_fits}
-use Rattle.plan.specs.Asked.{flash_of, asked_by}
-use Rattle.answers.specs.declared.Refusal.{Refusal}
+use Rattle.marking.specs.Standing.{by_standing}
 use Rattle.marking.proofs.confirm.Goals as goal
 
-pub confirm_taken-requires : goal.confirm_taken-requires
-confirm_taken-requires c =
+pub returns-in-Ok : goal.returns-in-Ok
+unfolding confirming by_standing
+returns-in-Ok c =
     let given = c.args in
-    small_fits given.g (length given.slot0.now) (length given.slot1.now) (length given.scratch.now)
-    (sym c.taken.ensures ∙ c.if-taken.true)
+    c.confirm_free.ensures given.slot1.now given.scratch.now
+    ∙ c.in-Ok.ensures.asked (confirm_if_needed given.g (flash_of given.slot0.now given.slot1.now given.scratch.now))
 
-pub returns-then-taken : goal.returns-then-taken
-unfolding confirming unless_refused valid
-returns-then-taken c =
+pub returns-in-Err : goal.returns-in-Err
+unfolding confirming by_standing
+returns-in-Err c =
     let given = c.args in
-    let fit : fits (build given.g) (length given.slot0.now) (length given.slot1.now)
-    (length given.scratch.now) ≡ true = sym c.taken.ensures ∙
-    c.if-taken.true in
-    c.confirm_taken.ensures
-    ∙ ap (λ (b : Bool). pick b (unless_under_way (asked_by given.g
-    (flash_of given.slot0.now given.slot1.now given.scratch.now))
-    (flash_of given.slot0.now given.slot1.now given.scratch.now)
-    (confirm_if_needed given.g (flash_of given.slot0.now given.slot1.now given.scratch.now)))
-    (refused_mark Refusal.Geometry (flash_of given.slot0.now given.slot1.now given.scratch.now))) (sym fit)
-
-pub returns-else-taken : goal.returns-else-taken
-unfolding confirming unless_refused valid
-returns-else-taken c =
-    let given = c.args in
-    let fit : fits (build given.g) (length given.slot0.now) (length given.slot1.now)
-    (length given.scratch.now) ≡ false = sym c.taken.ensures ∙ c.if-taken.false in
-    refusing_mark c.refuse.result Refusal.Geometry (flash_of given.slot0.now given.slot1.now
-    given.scratch.now) c.refuse.ensures
-    ∙ ap (λ (b : Bool). pick b (unless_under_way (asked_by given.g
-    (flash_of given.slot0.now given.slot1.now given.scratch.now))
-    (flash_of given.slot0.now given.slot1.now given.scratch.now)
-    (confirm_if_needed given.g (flash_of given.slot0.now given.slot1.now given.scratch.now)))
-    (refused_mark Refusal.Geometry (flash_of given.slot0.now given.slot1.now given.scratch.now))) (sym fit)
+    refusing_mark _ _ _ c.refuse.ensures
+    ∙ c.in-Err.ensures.asked (confirm_if_needed given.g (flash_of given.slot0.now given.slot1.now given.scratch.now))

@@ -11,10 +11,10 @@ use Rattle.marking.specs.MarkLaws.{left_of, confirmed_state}
 use Rattle.marking.proofs.MarkLaws.{confirm_written, confirm_refused}
 use Rattle.marking.proofs.taken.confirm_free.Goals as goal
 
-pub write_ok-run-requires : goal.write_ok-run-requires
-write_ok-run-requires c =
+pub write_ok-requires : goal.write_ok-requires
+write_ok-requires c =
     let small = c.requires in
-    let last = ap (λ (i : Sector). i.0) c.last_sector-last.ensures in
+    let last = ap (λ (i : Sector). i.0) c.last_sector.ensures in
     record {
       small = small;
       i_bound = omega (arith, last, small);
@@ -25,25 +25,25 @@ unfolding base
 written-requires c =
     let given = c.args in
     left_of given.g (ok_ops (build given.g) Area.slot0 true)
-    (state _ [] [] c.write_ok-run.result) 1 (flash_of given.slot0.now [] [])
-    (confirmed_state given.g given.slot0.now [] [] 1 _ _ (c.write_ok-run.ensures
+    (state _ [] [] c.write_ok.result) 1 (flash_of given.slot0.now [] [])
+    (confirmed_state given.g given.slot0.now [] [] 1 _ _ (c.write_ok.ensures
     ∙ ap (λ (i : Sector). ok_in given.g i true (local given.slot0.now (going 1)))
-    c.last_sector-last.ensures))
+    c.last_sector.ensures))
 
-pub returns-then-is_confirmable : goal.returns-then-is_confirmable
+pub returns : goal.returns
 unfolding base
-returns-then-is_confirmable c =
+returns c =
     let given = c.args in
     λ x1 x2. confirm_written given.g given.slot0.now x1 x2 c.written.result _ _
     (sym c.is_confirmable.ensures ∙
-    c.if-is_confirmable.true)
-    (c.write_ok-run.ensures
+    c.if-not-is_confirmable.false)
+    (c.write_ok.ensures
     ∙ ap (λ (i : Sector). ok_in given.g i true (local given.slot0.now (going 1)))
-    c.last_sector-last.ensures)
+    c.last_sector.ensures)
     c.written.ensures
 
-pub returns-else-is_confirmable : goal.returns-else-is_confirmable
-returns-else-is_confirmable c =
+pub returns-then-not-is_confirmable : goal.returns-then-not-is_confirmable
+returns-then-not-is_confirmable c =
     let given = c.args in
     λ x1 x2. confirm_refused given.g given.slot0.now x1 x2 c.refuse.result
-    (sym c.is_confirmable.ensures ∙ c.if-is_confirmable.false) c.refuse.ensures
+    (sym c.is_confirmable.ensures ∙ c.if-not-is_confirmable.true) c.refuse.ensures
