@@ -14,28 +14,30 @@ pub struct RecordNumbers {
     pub size: u64,
 }
 
-#[tactic(auto, unfolding(crate::specs::Numbers::step_numbers))]
-pub fn of_step(step: Step) -> RecordNumbers
-    ensures { result ≡ step_numbers step }
-{
-    match step {
-        Step::End => RecordNumbers {
-            found: 0,
-            kind: 0,
-            start: 0,
-            size: 0,
-        },
-        Step::Stump => RecordNumbers {
-            found: 2,
-            kind: 0,
-            start: 0,
-            size: 0,
-        },
-        Step::Record { kind, start, size } => RecordNumbers {
-            found: 1,
-            kind: kind as u64,
-            start: start as u64,
-            size: size as u64,
-        },
+impl From<Step> for RecordNumbers {
+    ghost from_gives = { λ step numbers. numbers ≡ step_numbers step };
+
+    #[tactic(auto, unfolding(crate::specs::Numbers::step_numbers))]
+    fn from(step: Step) -> RecordNumbers {
+        match step {
+            Step::End => RecordNumbers {
+                found: 0,
+                kind: 0,
+                start: 0,
+                size: 0,
+            },
+            Step::Stump => RecordNumbers {
+                found: 2,
+                kind: 0,
+                start: 0,
+                size: 0,
+            },
+            Step::Record { kind, start, size } => RecordNumbers {
+                found: 1,
+                kind: kind as u64,
+                start: start as u64,
+                size: size as u64,
+            },
+        }
     }
 }

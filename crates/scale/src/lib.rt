@@ -33,7 +33,7 @@ pub fn scale_check_image(image: &[u8]) -> u32
 pub fn scale_record_at(records: &[u8], at: usize) -> RecordNumbers
     ensures { result ≡ step_numbers (step_at records.now at) }
 {
-    record_reader::numbers::of_step(record_reader::record_at(records, at))
+    RecordNumbers::from(record_reader::record_at(records, at))
 }
 
 fn geometry(unit: usize, sector: usize, sectors: usize) -> Geometry
