@@ -2,9 +2,6 @@ use Rattle.std.proofs.Common.{arith, ◌≡◌, ◌+◌}
 use Rattle.compress.specs.Grown.{filling_store}
 use Rattle.compress.proofs.schedule.four_words.Goals as goal
 
-pub loop-u-init : goal.loop-u-init
-loop-u-init c = λ first F. F
-
 pub loop-u-preserved : goal.loop-u-preserved
 loop-u-preserved c = λ first F. filling_store (c.loop-u.invariant first F) (omega arith) c.next_word.ensures
 
