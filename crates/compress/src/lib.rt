@@ -22,6 +22,7 @@ const K: [u32; 64] = [
     0x748f82ee, 0x78a5636f, 0x84c87814, 0x8cc70208, 0x90befffa, 0xa4506ceb, 0xbef9a3f7, 0xc67178f2,
 ];
 
+#[tactic(auto, unfolding(fips::specs::Fips::K, crate::specs::Turns::turn))]
 fn turn_at(v: Work, w: &[u32; 64], t: usize) -> Work
     requires { t < 64 }
     ensures { eight result ≡ turn w.now (eight v) t }
@@ -52,6 +53,7 @@ fn all_turns(v: Work, w: &[u32; 64]) -> Work
     s
 }
 
+#[tactic(auto, unfolding(fips::specs::Fips::plus, crate::specs::Variables::eight))]
 fn sum(v: Work, h: Work) -> Work
     ensures { eight result ≡ plus (eight v) (eight h) }
 {

@@ -34,6 +34,7 @@ fn second(v: Work) -> u32
 }
 
 // The turn with K_t and W_t.
+#[tactic(auto, unfolding(fips::specs::Fips::round, crate::specs::Variables::eight))]
 pub fn one(v: Work, k: u32, w: u32) -> Work
     ensures { eight result ≡ round (eight v) k w }
 {

@@ -9,6 +9,7 @@ pub fn ch(x: u32, y: u32, z: u32) -> u32
     z ^ (x & (y ^ z))
 }
 
+#[tactic(auto, unfolding(fips::specs::Fips::Maj))]
 pub fn maj(x: u32, y: u32, z: u32) -> u32
     ensures { result ≡ Maj x y z }
 {
