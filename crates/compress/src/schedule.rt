@@ -36,29 +36,29 @@ fn four_words(w: &mut [u32; 64], t: usize)
 
 // The words from the seventeenth on, from the sixteen that stand first.
 fn extend(w: &mut [u32; 64])
-    requires { length w.old ≡ 64 }
-    ensures { (w.new ≡ schedule (take 16 w.old) 48) × (length w.new ≡ 64) }
+    ensures { w.new ≡ schedule (take 16 w.old) 48 }
 {
     for t in (16..64).step_by(4) {
         four_words(w, t);
     }
 }
 
-// The sixteen words of the block at at.
-fn load(bytes: &[u8], at: usize, w: &mut [u32; 64])
-    requires { (at + 64 ≤ length bytes.now) × (length w.old ≡ 64) }
-    ensures { (take 16 w.new ≡ words 4 16 (drop at bytes.now)) × (length w.new ≡ 64) }
+// The sixteen words of a block.
+fn load(block: &[u8], w: &mut [u32; 64])
+    requires { length block.now ≡ 64 }
+    ensures { take 16 w.new ≡ words 4 16 block.now }
 {
     for (i, word) in w[..16].iter_mut().enumerate() {
-        *word = fips::word(bytes, at + 4 * i);
+        *word = fips::word(block, 4 * i);
     }
 }
 
 // The schedule of the block at at, made in w, whose words may be any.
+// stays: the place beside the bytes, which the promise of this public function names: `words 4 16 (drop at bytes.now)`.
 pub fn of_block(bytes: &[u8], at: usize, w: &mut [u32; 64])
     requires { (at + 64 ≤ length bytes.now) × (length w.old ≡ 64) }
     ensures { (w.new ≡ schedule (words 4 16 (drop at bytes.now)) 48) × (length w.new ≡ 64) }
 {
-    load(bytes, at, w);
+    load(&bytes[at..at + 64], w);
     extend(w);
 }

@@ -30,17 +30,13 @@ put_length xs at size hi lo h l =
     ap (λ (n : ℕ). put (put xs at (bytes_of 4 hi)) (at + n) (bytes_of 4 lo)) (sym (length_bytes_of 4 hi))
     ∙ put_join xs at (bytes_of 4 hi) (bytes_of 4 lo) ∙ ap (put xs at) e
 
-eight_bytes : (x : ℕ) → to_be_bytes w64 x ≡ bytes_of 8 x
+-- the length field, as the library's eight bytes
+pub bit_length : (size : ℕ) → to_be_bytes w64 (size * 8 % 2 ^ 64) ≡ bytes_of 8 (8 * size)
 unfolding bytes_of
-eight_bytes x = rw div-one refl
-
--- the length field, written as the library's eight bytes
-pub put_bits : (xs : List ℕ) (at size : ℕ) (ys : List ℕ) → ys ≡ to_be_bytes w64 (size * 8 % 2 ^ 64) → at + 8 ≤ length xs
-    → put_mid at (at + 8 - at) xs ys ≡ put xs at (bytes_of 8 (8 * size))
-put_bits xs at size ys e h =
-    let l : length ys ≡ 8 = ap length e in
-    let b : ys ≡ bytes_of 8 (8 * size) = e ∙ eight_bytes (size * 8 % 2 ^ 64) ∙ bytes_of_mod 8 (size * 8) 64 (omega arith) ∙ ap (bytes_of 8) (mul_comm size 8) in
-    put_part xs at (at + 8 - at) ys (omega arith) (omega arith) ∙ ap (put xs at) b
+bit_length size = eight_bytes (size * 8 % 2 ^ 64) ∙ bytes_of_mod 8 (size * 8) 64 (omega arith) ∙ ap (bytes_of 8) (mul_comm size 8)
+  where
+    eight_bytes : (x : ℕ) → to_be_bytes w64 x ≡ bytes_of 8 x
+    eight_bytes x = rw div-one refl
 
 module _ (m : List ℕ) (from rest count : ℕ) (whole : from + rest ≡ length m) (at_block : from % 64 ≡ 0) (few : rest < 64)
     (count_is : count ≡ (rest + 72) / 64) where
@@ -134,13 +130,18 @@ ending_of m from rest count tail₀ tail₁ tail₂ at_block all few count_is e�
 }
 
 -- the same of the blocks alone, as the code cuts them off
-pub last_blocks : (m : List ℕ) (rest end : ℕ) (tail₀ tail₁ tail₂ : List ℕ) → rest ≡ length m % 64 → end ≡ (rest + 72) / 64 * 64
-    → tail₀ ≡ replicate 128 0 → tail₁ ≡ put tail₀ 0 (part m (length m - rest) rest)
-    → tail₂ ≡ put (set tail₁ rest 128) (end - 8) (bytes_of 8 (8 * length m)) → take end tail₂ ≡ drop (64 * (length m / 64)) (pad m)
-last_blocks m rest end tail₀ tail₁ tail₂ r e e₀ e₁ e₂ =
+pub last_blocks : (m : List ℕ) (rest end : ℕ) (tail₀ tail₁ tail₂ field : List ℕ) → rest ≡ length m % 64 → end ≡ (rest + 72) / 64 * 64
+    → tail₀ ≡ replicate 128 0 → tail₁ ≡ put tail₀ 0 (part m (length m - rest) rest) → field ≡ bytes_of 8 (8 * length m)
+    → tail₂ ≡ put_mid (end - 8) (end - (end - 8)) (set tail₁ rest 128) field → take end tail₂ ≡ drop (64 * (length m / 64)) (pad m)
+last_blocks m rest end tail₀ tail₁ tail₂ field r e e₀ e₁ l e₂ =
     let count : ℕ = (rest + 72) / 64 in
+    let before : List ℕ = set tail₁ rest 128 in
     let k : end ≡ 64 * count = omega arith in
     let f : length m - rest ≡ 64 * (length m / 64) = omega arith in
-    let at_end = ap (λ (n : ℕ). put (set tail₁ rest 128) (n - 8) (bytes_of 8 (8 * length m))) k in
-    let it = ending_of m (length m - rest) rest count tail₀ tail₁ tail₂ (omega arith) (omega arith) (omega arith) refl e₀ e₁ (e₂ ∙ at_end) in
+    let eight : length field ≡ 8 = ap length l ∙ length_bytes_of 8 (8 * length m) in
+    let room : length before ≡ 128 = length-set tail₁ rest 128 ∙ ap length e₁ ∙ length_put tail₀ 0 (part m (length m - rest) rest) ∙ ap length e₀ in
+    let stored : tail₂ ≡ put before (64 * count - 8) (bytes_of 8 (8 * length m)) =
+    e₂ ∙ put_part before (end - 8) (end - (end - 8)) field (omega arith) (omega arith)
+    ∙ (λ i. put before (k i - 8) (l i)) in
+    let it = ending_of m (length m - rest) rest count tail₀ tail₁ tail₂ (omega arith) (omega arith) (omega arith) refl e₀ e₁ stored in
     ap (λ (n : ℕ). take n tail₂) k ∙ it.is ∙ ap (λ (n : ℕ). drop n (pad m)) f

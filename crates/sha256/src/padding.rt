@@ -1,16 +1,13 @@
 // The end of the padded message (5.1.1): what is left of the message, the bit 1, zero bits and the length.
-ghost use Rattle.std.specs.Prelude.{◌≡◌, ◌+◌, ◌*◌, ◌/◌, ◌≤◌, length, drop, replicate};
-ghost use Rattle.spans.specs.Bytes.{put};
+ghost use Rattle.std.specs.Prelude.{◌≡◌, ◌*◌, ◌/◌, length, drop, replicate};
 ghost use Rattle.spans.specs.Words.{bytes_of};
 ghost use Rattle.fips.specs.Fips.{pad};
 
 // The length in bits of a message of size bytes.
-fn put_length(area: &mut [u8], at: usize, size: usize)
-    requires { at + 8 ≤ length area.old }
-    ensures { area.new ≡ put area.old at (bytes_of 8 (8 * size)) }
+fn bit_length(size: usize) -> [u8; 8]
+    ensures { result ≡ bytes_of 8 (8 * size) }
 {
-    let bits = (size as u64).wrapping_mul(8);
-    area[at..at + 8].copy_from_slice(&bits.to_be_bytes());
+    (size as u64).wrapping_mul(8).to_be_bytes()
 }
 
 // The last blocks of the padded message, those behind the message's own whole blocks. They are made in tail.
@@ -25,6 +22,6 @@ pub fn finish<'a>(message: &[u8], tail: &'a mut [u8; 128]) -> &'a [u8]
     let end = (rest + 72) / 64 * 64;
     store::copy(message, size - rest, tail, 0, rest);
     tail[rest] = 128;
-    put_length(tail, end - 8, size);
+    tail[end - 8..end].copy_from_slice(&bit_length(size));
     &tail[..end]
 }

@@ -3,10 +3,10 @@ use Rattle.compress.specs.Grown.{filling_none, filled}
 use Rattle.compress.proofs.schedule.extend.Goals as goal
 
 pub loop-t-init : goal.loop-t-init
-loop-t-init c = (filling_none _ c.requires, refl)
+loop-t-init c = (filling_none _ c.told-w, refl)
 
 pub loop-t-preserved : goal.loop-t-preserved
 loop-t-preserved c = (c.four_words.ensures _ c.loop-t.invariant.0, omega arith)
 
 pub returns : goal.returns
-returns c = (filled c.loop-t.invariant.0 (omega arith), c.loop-t.invariant.0.long)
+returns c = filled c.loop-t.invariant.0 (omega arith)
