@@ -1,3 +1,4 @@
 pub mod FollowLaws
 pub mod AreaLaws
 pub mod StateLaws
+pub mod CourseLaws

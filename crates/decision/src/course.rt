@@ -14,6 +14,7 @@ pub fn wants_check(course: Course) -> bool
 }
 
 // The course after the check's answer.
+#[tactic(auto, using(crate::specs::CourseLaws::judged_by))]
 pub fn judge(accepted: bool, course: Course) -> Course
     ensures { result ≡ judged accepted course }
 {

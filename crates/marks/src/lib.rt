@@ -10,7 +10,7 @@ ghost use Rattle.flash.specs.Small.{Small};
 use flash::{Geometry, Sector};
 
 pub mod magic;
-mod mark;
+pub mod mark;
 pub mod part;
 pub mod progress;
 
