@@ -2,7 +2,7 @@
 // part and put, so no caller has to show a length.
 #![tactic(auto)]
 
-ghost use Rattle.std.specs.Prelude.{◌≡◌, ◌-◌, min, get_or};
+ghost use Rattle.std.specs.Prelude.{◌≡◌, ◌-◌, min};
 
 pub fn least(a: usize, b: usize) -> usize
     ensures { result ≡ min a b }
@@ -15,10 +15,4 @@ pub fn room(length: usize, at: usize) -> usize
     ensures { result ≡ length - at }
 {
     if at < length { length - at } else { 0 }
-}
-
-pub fn byte_at(area: &[u8], at: usize) -> u8
-    ensures { result ≡ get_or area.now at 0 }
-{
-    if at < area.len() { area[at] } else { 0 }
 }
