@@ -4,6 +4,9 @@ ghost use Rattle.causes.specs.Check.{sizes, head};
 
 use causes::{Cause, Sizes};
 
+// "magic 96f3b83c at 0"
+const MAGIC: usize = 0x96f3b83c;
+
 fn sizes(image: &[u8]) -> Result<Sizes, Cause>
     requires { 32 ≤ length image.now }
     ensures { result ≡ sizes image.now }
@@ -11,10 +14,7 @@ fn sizes(image: &[u8]) -> Result<Sizes, Cause>
     let records = fields::two(image, 4);
     let header = fields::two(image, 8);
     let body = fields::four(image, 12);
-    if header < 32 {
-        return Err(Cause::HeaderSizes);
-    }
-    if image.len() < header + body + records {
+    if header < 32 || image.len() < header + body + records {
         return Err(Cause::HeaderSizes);
     }
     Ok(Sizes {
@@ -31,9 +31,8 @@ pub fn head(image: &[u8]) -> Result<Sizes, Cause>
     if image.len() < 32 {
         return Err(Cause::HeaderSizes);
     }
-    if fields::four(image, 0) == 2532554812 {
-        sizes(image)
-    } else {
-        Err(Cause::HeaderMagic)
+    if fields::four(image, 0) != MAGIC {
+        return Err(Cause::HeaderMagic);
     }
+    sizes(image)
 }

@@ -15,8 +15,8 @@ fn digest_at(image: &[u8], signed: Signed) -> Result<(), Cause>
     ensures { result ≡ digest_at (Ok signed) image.now }
 {
     let mut digest = [0u8; 32];
-    sha256::digest(&image[0..signed.covered], &mut digest);
-    if compare::stands(image, signed.digest, &digest[..32]) {
+    sha256::digest(&image[..signed.covered], &mut digest);
+    if compare::stands(image, signed.digest, &digest) {
         Ok(())
     } else {
         Err(Cause::DigestDiffers)
@@ -31,6 +31,7 @@ pub fn check(image: &[u8]) -> Result<(), Cause>
 }
 
 // The image check by its number: 0 for accepted.
+// stays: the C interface answers a number (`scale_check_image`).
 #[tactic(auto, unfolding(causes::specs::Check::cause_of))]
 pub fn cause_number(image: &[u8]) -> u32
     ensures { result ≡ cause_of (check image.now) }

@@ -5,6 +5,7 @@ ghost use Rattle.record_reader.specs.Numbers.{step_numbers};
 use records::Step;
 
 // What was found, and of a record its type, where its bytes start, and how many they are; else these are 0.
+// stays: the C interface answers these numbers (`scale_record_at`).
 #[repr(C)]
 #[derive(Clone, Copy)]
 pub struct RecordNumbers {

@@ -1,10 +1,5 @@
-use Rattle.std.proofs.Common.{ap, length, sym, ◌∙◌}
-use Rattle.fips.specs.Laws.{length_sha256}
 use Rattle.image.specs.DigestLaws.{found_same, found_other}
 use Rattle.image.proofs.digest_at.Goals as goal
-
-pub slice_bounds-stands-end : goal.slice_bounds-stands-end
-slice_bounds-stands-end c = sym (ap length c.digest.ensures ∙ length_sha256 _)
 
 pub returns-then-stands : goal.returns-then-stands
 returns-then-stands c =
