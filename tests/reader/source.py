@@ -154,14 +154,16 @@ class Source(File):
                 one = self.declared[m[2]] = Declaration(file, m[2], True)
                 self.variants.update(re.findall(r"^ +(\w+)", "\n".join(lines[n: end]), re.M) if m[1] == "enum" else [])
                 one.add([k + 1 for k in range(n, end + 1) if lines[k]], self.words("\n".join(lines[n: end + 1])))
-            elif m := re.match(r'(pub )?(?:extern "C" )?fn (\w+)', line):
-                end = next(k for k in range(n, len(lines)) if re.search(r"^\{$|[)>\w] \{$", lines[k]))
-                one = self.functions[m[2]] = Declaration(file, m[2], False)
+            elif m := re.match(r' *(pub )?(?:extern "C" )?fn (\w+)', line):
+                end = next(k for k in range(n, len(lines)) if re.search(r"^ *\{$|[)>\w] \{$", lines[k]))
+                # (the methods of two types may have one name)
+                called = m[2] if m[2] not in self.functions else f"{m[2]}:{n + 1}"
+                one = self.functions[called] = Declaration(file, m[2], False)
                 one.public = bool(m[1])
                 head, *contract = re.split(r"^ +(requires|ensures)\b\*?(?: \w+)?", "\n".join(lines[n: end + 1]).rsplit("{", 1)[0], flags=re.M)
                 # `result` is what the function returns, and a clause's name none of its words
                 clauses = [re.sub(r"(?<![\w.])result\b", "", clause) for clause in contract[1::2]]
-                one.add([k + 1 for k in range(n, end + 1) if lines[k] not in ("", "{")], "\n".join([self.words(head), *clauses]))
+                one.add([k + 1 for k in range(n, end + 1) if lines[k].strip() not in ("", "{")], "\n".join([self.words(head), *clauses]))
                 one.asks = "requires" in contract[::2]
 
     def words(self, text):
