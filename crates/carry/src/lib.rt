@@ -16,6 +16,8 @@ use marks::Trailer;
 use plan::Course;
 use trailer::Mark;
 
+// stays: three parameters for the areas, here and in moves: a struct of three &mut wants three clauses more (`.ghost_name`) of each function.
+
 // Lines 3 to 6 of the trailer exchange.
 #[tactic(auto, unfolding(flash::specs::Base::base))]
 fn lines_three_to_six(

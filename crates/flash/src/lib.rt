@@ -46,6 +46,7 @@ pub enum End {
 }
 
 // What is left of the allowance, and how it stands.
+// stays: no Result, since a run that ended too says what is left; `local`, `erase_in` and `steps` (specs/Operations.antt) are over this record.
 #[derive(Clone, Copy)]
 pub struct Run {
     pub left: u64,
@@ -53,7 +54,7 @@ pub struct Run {
 }
 
 // The named functions that turn one kind of number into another.
-
+// stays: `requires Small self`, no invariant of the type: `fit::taken` and the entry points are handed any three numbers, and refuse some.
 impl Geometry {
     pub fn start_of(self, i: Sector) -> Offset
         requires small { Small self }

@@ -38,6 +38,7 @@ fn marked_sector(g: Geometry, k: usize) -> Sector
 }
 
 // The move whose mark has number k, without its mark.
+// stays: the three areas are three parameters, as in carry (src/lib.rt there says why).
 fn one_move(
     g: Geometry,
     k: usize,

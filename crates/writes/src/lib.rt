@@ -42,13 +42,13 @@ pub fn write_progress(g: Geometry, slot0: &mut [u8], k: usize, run: Run) -> Run
         (local slot0.old run) }
 {
     let at = marks::progress::mark_place(g, k);
-    // stays: `as`, since it is 1, 2 or 3: u8::try_from has an Err that would want an answer.
+    // stays: `as`: it is 1, 2 or 3, and the Err of u8::try_from, which never comes, would want an answer.
     let value = (1 + k % 3) as u8;
     write_mark(g, slot0, g.last_sector(), at, value, run)
 }
 
 // Image ok 01, if there is to be one.
-// stays: `wanted` is a bool, since `ok_in` and the lists of operations that the callers' contracts name take a Bool.
+// stays: `wanted` is a bool, as the Bool of `ok_in`, `line_five_in` and `lines_one_two_in` in the contracts of lines.
 #[tactic(auto, unfolding(crate::specs::InArea::ok_in, flash::specs::Base::base))]
 pub fn write_ok(g: Geometry, area: &mut [u8], i: Sector, wanted: bool, run: Run) -> Run
     requires small { Small g }
