@@ -6,7 +6,7 @@ ghost use Rattle.causes.specs.Check.{accepted, head, check};
 ghost use Rattle.plan.specs.Asked.{flash_of};
 ghost use Rattle.plan.specs.Bounds.{in_bounds};
 ghost use Rattle.plan.specs.Decision.{decide};
-ghost use Rattle.loader.specs.PowerUp.{result_of, judged_start, started, data_of, ended, carried, answered, is_damage, on_course};
+ghost use Rattle.loader.specs.PowerUp.{result_of, started, data_of, ended, carried, answered, on_course};
 
 use answers::{Answer, Outcome, Refusal};
 use flash::{End, Geometry, Run};
@@ -28,19 +28,14 @@ fn data_of(g: Geometry, slot: &[u8]) -> &[u8]
     requires { Small g }
     ensures { result.now ≡ data_of g slot.now }
 {
-    let bytes = g.data_bytes();
-    let end = spans::least(bytes.0, slot.len());
-    &slot[..end]
+    &slot[..g.data_bytes().0.min(slot.len())]
 }
 
 fn slot_accepted(g: Geometry, slot: &[u8]) -> bool
     requires { Small g }
     ensures { result ≡ accepted (data_of g slot.now) }
 {
-    match image::check(data_of(g, slot)) {
-        Ok(()) => true,
-        Err(_) => false,
-    }
+    image::check(data_of(g, slot)).is_ok()
 }
 
 // A, B and C, and the image check where C asks for it.
@@ -57,30 +52,20 @@ fn decided(g: Geometry, slot0: &[u8], slot1: &[u8], scratch: &[u8]) -> Course
     }
 }
 
-// The check of slot 0, if it is chosen.
-fn checked_boot(image: &[u8], offset: usize) -> Outcome
-    ensures { result ≡ judged_start offset (check image.now) }
-{
-    match image::check(image) {
-        Ok(()) => Outcome::Boot(offset),
-        Err(cause) => Outcome::Refused(Refusal::Image(cause)),
-    }
-}
-
-// D for the data bytes of slot 0.
+// D for the data bytes of slot 0, with their check if it is chosen.
+#[tactic(auto, unfolding(crate::specs::PowerUp::started, crate::specs::PowerUp::judged_start))]
 fn boot_data(image: &[u8], checked: bool) -> Outcome
     ensures { result ≡ started checked (head image.now) (check image.now) }
 {
-    match image::header::head(image) {
-        Err(_) => Outcome::Refused(Refusal::Header),
-        Ok(sizes) => {
-            if checked {
-                checked_boot(image, sizes.header)
-            } else {
-                Outcome::Boot(sizes.header)
-            }
+    let Ok(sizes) = image::header::head(image) else {
+        return Outcome::Refused(Refusal::Header);
+    };
+    if checked {
+        if let Err(cause) = image::check(image) {
+            return Outcome::Refused(Refusal::Image(cause));
         }
     }
+    Outcome::Boot(sizes.header)
 }
 
 #[tactic(auto, unfolding(crate::specs::PowerUp::ended))]
@@ -116,28 +101,11 @@ fn take_course(
         end: End::Going,
     };
     let run = carry::carry_out(g, course, slot0, slot1, scratch, all);
-    let end = run.end;
     Answer {
         done: decision::course::done_of(course),
         found: decision::course::found_of(course),
         count: allowance - run.left,
-        outcome: outcome_of(g, slot0, end, checked),
-    }
-}
-
-#[tactic(auto, unfolding(crate::specs::PowerUp::is_damage))]
-fn is_damage(course: Course) -> bool
-    ensures { result ≡ is_damage course }
-{
-    match course {
-        Course::Damage => true,
-        Course::FromLineThree(_) => false,
-        Course::Resume(_) => false,
-        Course::Test => false,
-        Course::Permanent => false,
-        Course::Revert => false,
-        Course::Clear => false,
-        Course::Nothing => false,
+        outcome: outcome_of(g, slot0, run.end, checked),
     }
 }
 
@@ -156,7 +124,7 @@ pub fn start_taken(
         (decide accepted (build g) (flash_of slot0.old slot1.old scratch.old)) }
 {
     let course = decided(g, slot0, slot1, scratch);
-    if is_damage(course) {
+    if course == Course::Damage {
         refuse(Refusal::Damage)
     } else {
         take_course(g, course, slot0, slot1, scratch, allowance, checked)

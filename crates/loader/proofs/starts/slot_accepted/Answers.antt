@@ -1,15 +1,11 @@
-use Rattle.std.proofs.Common.{ap, sym, ◌∙◌}
-use Rattle.causes.specs.Check.{check, is_accepted, accepted}
+use Rattle.std.proofs.Common.{is_ok, Ok, Err, refl, ap, ◌∙◌, ◌≡◌}
+use Rattle.causes.specs.Check.{Verdict, check, is_accepted, accepted}
 use Rattle.loader.proofs.starts.slot_accepted.Goals as goal
 
-pub returns-in-Ok : goal.returns-in-Ok
+pub returns : goal.returns
 unfolding accepted is_accepted
-returns-in-Ok c =
-    ap is_accepted (sym c.in-Ok.is ∙ c.check.ensures ∙ ap check
-    c.data_of.ensures)
-
-pub returns-in-Err : goal.returns-in-Err
-unfolding accepted is_accepted
-returns-in-Err c =
-    ap is_accepted (sym c.in-Err.is ∙ c.check.ensures ∙ ap check
-    c.data_of.ensures)
+returns c = c.is_ok.ensures.value ∙ same _ ∙ ap is_accepted (c.check.ensures ∙ ap check c.data_of.ensures)
+  where
+    same : (v : Verdict) → is_ok v ≡ is_accepted v
+    same (Ok x) = refl
+    same (Err e) = refl
