@@ -30,6 +30,7 @@ pub fn full_start(
 }
 
 // The plain start, which does not check slot 0.
+#[tactic(auto, unfolding(crate::specs::PowerUp::power_up))]
 pub fn power_up(
     g: Geometry,
     slot0: &mut [u8],

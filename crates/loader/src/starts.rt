@@ -68,7 +68,7 @@ fn boot_data(image: &[u8], checked: bool) -> Outcome
     Outcome::Boot(sizes.header)
 }
 
-#[tactic(auto, unfolding(crate::specs::PowerUp::ended))]
+#[tactic(auto, unfolding(crate::specs::PowerUp::ended, crate::specs::PowerUp::boot_of))]
 fn outcome_of(g: Geometry, slot0: &[u8], end: End, checked: bool) -> Outcome
     requires { Small g }
     ensures { result ≡ ended checked g (flash_of slot0.now [] []) end }
