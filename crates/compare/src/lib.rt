@@ -1,54 +1,45 @@
 // Whether bytes of an area are blank, or those that are wanted. What is not there is neither.
 #![tactic(auto)]
 
-ghost use Rattle.std.specs.Prelude.{◌≡◌, ◌-◌, ◌≤◌, length};
+ghost use Rattle.std.specs.Prelude.{◌≡◌, ◌-◌, ◌<◌, length, MatchOption, bit_and, bit_or};
+ghost use Rattle.std.specs.Int.Bits.{bit_xor};
+ghost use Rattle.std.specs.List.{fold, zip};
 ghost use Rattle.spans.specs.Bytes.{blank, part, same};
 
-// A fold, and no search for the first other byte: that becomes vector code.
-fn blank_within(area: &[u8], at: usize, size: usize) -> bool
-    requires { size ≤ length area.now - at }
-    ensures { result ≡ same (part area.now at size) (blank size) }
+// The size bytes from at on, where all of them are there.
+fn window(area: &[u8], at: usize, size: usize) -> Option<&[u8]>
+    ensures { MatchOption result (length area.now - at < size) (λ w. (w.now ≡ part area.now at size) × (length w.now ≡ size)) }
 {
-    let mut all: u8 = 255;
-    let mut i = 0;
-    while i < size {
-        all = all & area[at + i];
-        i += 1;
-    }
-    all == 255
+    area.get(at..).unwrap_or(&[]).get(..size)
+}
+
+// The bits that are 1 in each byte. A fold, and no search for the first byte with a 0: that becomes vector code.
+fn common_bits(bytes: &[u8]) -> u8
+    ensures { result ≡ fold bit_and 255 bytes.now }
+{
+    bytes.iter().fold(255, |common, byte| common & *byte)
 }
 
 // Whether the size bytes from at on are all there and all 0xff.
 pub fn all_blank(area: &[u8], at: usize, size: usize) -> bool
     ensures { result ≡ same (part area.now at size) (blank size) }
 {
-    if spans::room(area.len(), at) < size {
-        false
-    } else {
-        blank_within(area, at, size)
-    }
+    window(area, at, size).is_some_and(|bytes| common_bits(bytes) == 255)
 }
 
-fn same_within(area: &[u8], at: usize, want: &[u8]) -> bool
-    requires { length want.now ≤ length area.now - at }
-    ensures { result ≡ same (part area.now at (length want.now)) want.now }
+// The bits in which a byte differs from the one that is wanted.
+fn differing_bits(bytes: &[u8], want: &[u8]) -> u8
+    ensures { result ≡ fold (λ d p. bit_or d (bit_xor p.0 p.1)) 0 (zip bytes.now want.now) }
 {
-    let mut differ: u8 = 0;
-    let mut i = 0;
-    while i < want.len() {
-        differ = differ | (area[at + i] ^ want[i]);
-        i += 1;
-    }
-    differ == 0
+    bytes
+        .iter()
+        .zip(want)
+        .fold(0, |differ, (byte, wanted)| differ | (*byte ^ *wanted))
 }
 
 // Whether the bytes of want stand in the area from at on.
 pub fn stands(area: &[u8], at: usize, want: &[u8]) -> bool
     ensures { result ≡ same (part area.now at (length want.now)) want.now }
 {
-    if spans::room(area.len(), at) < want.len() {
-        false
-    } else {
-        same_within(area, at, want)
-    }
+    window(area, at, want.len()).is_some_and(|bytes| differing_bits(bytes, want) == 0)
 }

@@ -1,38 +1,39 @@
 // Stores in an area: what lies beyond the end of a slice is neither read nor written, as in the definitions of part and put.
 #![tactic(auto)]
 
-ghost use Rattle.std.specs.Prelude.{◌≡◌, ◌*◌, ◌-◌, ◌/◌, ◌≤◌, min, length};
+ghost use Rattle.std.specs.Prelude.{◌≡◌, ◌*◌, ◌+◌, ◌-◌, ◌/◌, min, length};
 ghost use Rattle.spans.specs.Bytes.{put, blank, part};
 ghost use Rattle.spans.specs.Blanks.{blanks};
 
-fn fill_within(area: &mut [u8], at: usize, size: usize)
-    requires { size ≤ length area.old - at }
-    ensures { area.new ≡ put area.old at (blank size) }
+use std::ops::Range;
+
+// Where those of the size bytes from at on stand that are there.
+fn there(length: usize, at: usize, size: usize) -> Range<usize>
+    ensures start { result.start ≡ min at length }
+    ensures end { result.end ≡ min at length + min size (length - at) }
 {
-    let mut i = 0;
-    while i < size {
-        area[at + i] = 255;
-        i += 1;
-    }
+    let start = at.min(length);
+    start..start + size.min(length - start)
 }
 
 // The size bytes from at on are made 0xff.
 pub fn fill(area: &mut [u8], at: usize, size: usize)
     ensures { area.new ≡ put area.old at (blank size) }
 {
-    let n = spans::least(size, spans::room(area.len(), at));
-    fill_within(area, at, n);
+    let span = there(area.len(), at, size);
+    // (the library's `fill` stores the last byte apart, which takes a power-up 16 to 48 bytes more of stack)
+    for byte in area[span].iter_mut() {
+        *byte = 255;
+    }
 }
 
-fn copy_within(src: &[u8], from: usize, dst: &mut [u8], at: usize, size: usize)
-    requires size_in_bounds { size ≤ length src.now - from }
-    requires size_in_bounds_2 { size ≤ length dst.old - at }
-    ensures { dst.new ≡ put dst.old at (part src.now from size) }
+// The bytes go to the front of area, as far as it reaches. Of what a `for` writes through `iter_mut().zip(..)` a proof learns nothing, so
+// they are written by number; copy_from_slice would be a call of memcpy, and the archive needs memset alone.
+fn overwrite(area: &mut [u8], bytes: &[u8])
+    ensures { area.new ≡ put area.old 0 bytes.now }
 {
-    let mut i = 0;
-    while i < size {
-        dst[at + i] = src[from + i];
-        i += 1;
+    for i in 0..area.len().min(bytes.len()) {
+        area[i] = bytes[i];
     }
 }
 
@@ -40,30 +41,26 @@ fn copy_within(src: &[u8], from: usize, dst: &mut [u8], at: usize, size: usize)
 pub fn copy(src: &[u8], from: usize, dst: &mut [u8], at: usize, size: usize)
     ensures { dst.new ≡ put dst.old at (part src.now from size) }
 {
-    let n = spans::least(
-        spans::least(size, spans::room(src.len(), from)),
-        spans::room(dst.len(), at),
-    );
-    copy_within(src, from, dst, at, n);
+    let bytes = &src[there(src.len(), from, size)];
+    let span = there(dst.len(), at, bytes.len());
+    overwrite(&mut dst[span], bytes);
 }
 
 // Block after block is looked at and then copied: one fixed length, which the compiler unrolls, and what was looked at is still near.
-fn copy_blank_blocks(src: &[u8], from: usize, dst: &mut [u8], at: usize, blocks: usize) -> usize
-    requires blocks_in_bounds { blocks * 512 ≤ length src.now - from }
-    requires blocks_in_bounds_2 { blocks * 512 ≤ length dst.old - at }
-    ensures value { result ≡ blanks 512 at blocks dst.old }
-    ensures dst_after { dst.new ≡ put dst.old at (part src.now from (result * 512)) }
+fn copy_blank_blocks(bytes: &[u8], area: &mut [u8]) -> usize
+    ensures value { result ≡ blanks 512 0 (min (length bytes.now) (length area.old) / 512) area.old }
+    ensures area_after { area.new ≡ put area.old 0 (part bytes.now 0 (result * 512)) }
 {
-    let mut k = 0;
-    while k < blocks {
-        if compare::all_blank(dst, at + k * 512, 512) {
-            copy_within(src, from + k * 512, dst, at + k * 512, 512);
-            k += 1;
-        } else {
+    let blocks = bytes.len().min(area.len()) / 512;
+    for k in 0..blocks {
+        let start = k * 512;
+        let end = start + 512;
+        if !compare::all_blank(&area[start..end], 0, 512) {
             return k;
         }
+        overwrite(&mut area[start..end], &bytes[start..end]);
     }
-    k
+    blocks
 }
 
 // The size bytes of src from from on go to dst from at on, in blocks of 512 bytes as long as those of dst are blank. Answers how many
@@ -73,9 +70,7 @@ pub fn copy_blank(src: &[u8], from: usize, dst: &mut [u8], at: usize, size: usiz
         dst.old }
     ensures dst_after { dst.new ≡ put dst.old at (part src.now from (result * 512)) }
 {
-    let n = spans::least(
-        spans::least(size, spans::room(src.len(), from)),
-        spans::room(dst.len(), at),
-    );
-    copy_blank_blocks(src, from, dst, at, n / 512)
+    let bytes = &src[there(src.len(), from, size)];
+    let span = there(dst.len(), at, bytes.len());
+    copy_blank_blocks(bytes, &mut dst[span])
 }
