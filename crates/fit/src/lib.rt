@@ -1,7 +1,7 @@
 // Whether a geometry and the lengths of the areas are document 01's: refusal 1.
 #![tactic(auto)]
 
-ghost use Rattle.std.specs.Prelude.{◌≡◌, ◌≤◌, ◌<◌};
+ghost use Rattle.std.specs.Prelude.{◌≡◌, ◌≤◌, ◌<◌, is_some, IfSome};
 ghost use Rattle.spans.specs.Choice.{every};
 ghost use Rattle.flash.specs.Small.{Small};
 ghost use Rattle.flash.specs.Build.{fits};
@@ -9,6 +9,13 @@ ghost use Rattle.flash.specs.Base.{build};
 ghost use Rattle.fit.specs.Taken.{unit_asked, sizes_asked, lengths_asked};
 
 use flash::Geometry;
+
+// A geometry whose products fit a word, as all do that document 01 takes.
+#[derive(Clone, Copy)]
+pub struct Fit {
+    pub g: Geometry,
+    ghost small: { Small g },
+}
 
 #[tactic(auto, unfolding(crate::specs::Taken::unit_asked))]
 fn unit_taken(w: usize) -> bool
@@ -39,10 +46,23 @@ fn lengths_taken(g: Geometry, l0: usize, l1: usize, l2: usize) -> bool
     l0 == slot.0 && l1 == slot.0 && l2 == g.scratch_bytes().0
 }
 
-// Whether the geometry and the areas' lengths are those of document 01. Nothing is divided or multiplied before its bounds are known.
+// Nothing is divided or multiplied before its bounds are known.
 #[tactic(auto, using(crate::specs::Taken::unit_bounds, crate::specs::Taken::small, crate::specs::Taken::in_parts))]
-pub fn taken(g: Geometry, l0: usize, l1: usize, l2: usize) -> bool
+fn is_taken(g: Geometry, l0: usize, l1: usize, l2: usize) -> bool
     ensures { result ≡ fits (build g) l0 l1 l2 }
 {
     unit_taken(g.unit) && sizes_taken(g) && lengths_taken(g, l0, l1, l2)
+}
+
+// The geometry, where it and the areas' lengths are those of document 01.
+#[tactic(auto, using(crate::specs::Taken::small_fits))]
+pub fn taken(g: Geometry, l0: usize, l1: usize, l2: usize) -> Option<Fit>
+    ensures fits { is_some result ≡ fits (build g) l0 l1 l2 }
+    ensures same { IfSome result (λ t. t.g ≡ g) }
+{
+    if is_taken(g, l0, l1, l2) {
+        Some(Fit { g })
+    } else {
+        None
+    }
 }

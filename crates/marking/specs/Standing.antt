@@ -16,7 +16,7 @@ standing_of Revert = Ok tt
 standing_of Clear = Ok tt
 standing_of Nothing = Ok tt
 
-unfoldable pub by_standing : Result ⊤ Refusal → Flash → MarkResult → MarkResult
+unfoldable pub by_standing : {T : Type 0} → Result T Refusal → Flash → MarkResult → MarkResult
 by_standing (Ok x) f otherwise = otherwise
 by_standing (Err r) f otherwise = refused_mark r f
 

@@ -16,7 +16,7 @@ pub fn mark(g: Geometry, slot0: &[u8], slot1: &mut [u8], scratch: &[u8], permane
         ≡ marking permanent g (flash_of slot0.now slot1.old scratch.now) }
 {
     match taken::standing(g, slot0, slot1, scratch) {
-        Ok(()) => taken::mark_free(g, slot1, permanent),
+        Ok(fit) => taken::mark_free(fit, slot1, permanent),
         Err(refusal) => taken::refuse(refusal),
     }
 }
@@ -27,7 +27,7 @@ pub fn confirm(g: Geometry, slot0: &mut [u8], slot1: &[u8], scratch: &[u8]) -> M
         ≡ confirming g (flash_of slot0.old slot1.now scratch.now) }
 {
     match taken::standing(g, slot0, slot1, scratch) {
-        Ok(()) => taken::confirm_free(g, slot0),
+        Ok(fit) => taken::confirm_free(fit, slot0),
         Err(refusal) => taken::refuse(refusal),
     }
 }

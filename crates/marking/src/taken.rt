@@ -1,14 +1,14 @@
 // The parts of marking and confirming.
-ghost use Rattle.std.specs.Prelude.{◌≡◌, Err, OnOk, List, [], ◌++◌, ℕ, ◌-◌, ◌≤◌, length};
+ghost use Rattle.std.specs.Prelude.{◌≡◌, Err, IfOk, List, [], ◌++◌, ℕ, ◌-◌, ◌≤◌, length};
 ghost use Rattle.flash.specs.Build.{Area};
 ghost use Rattle.flash.specs.Base.{build};
-ghost use Rattle.flash.specs.Small.{Small};
 ghost use Rattle.plan.specs.Lists.{ok_ops, magic_ops};
 ghost use Rattle.plan.specs.Asked.{flash_of};
 ghost use Rattle.marking.specs.Marking.{MarkResult, mark_result, ending_of, unless_refused, unmarked, mark_unless_marked, confirmable, confirm_if_needed};
 ghost use Rattle.marking.specs.Standing.{standing_of, by_standing};
 
 use answers::{Marked, Refusal};
+use fit::Fit;
 use flash::{Bytes, End, Geometry, Run};
 use marks::Trailer;
 use plan::Course;
@@ -35,17 +35,17 @@ fn standing_of(course: Course) -> Result<(), Refusal>
     }
 }
 
-// 1, 2 and 6, asked in this order, or nothing against it.
-pub fn standing(g: Geometry, slot0: &[u8], slot1: &[u8], scratch: &[u8]) -> Result<(), Refusal>
-    ensures small { OnOk result (Small g) }
+// 1, 2 and 6, asked in this order, or the geometry where nothing is against it.
+pub fn standing(g: Geometry, slot0: &[u8], slot1: &[u8], scratch: &[u8]) -> Result<Fit, Refusal>
+    ensures same { IfOk result (λ fit. fit.g ≡ g) }
     ensures asked { (otherwise : MarkResult) → by_standing result (flash_of slot0.now slot1.now scratch.now) otherwise
         ≡ unless_refused g (flash_of slot0.now slot1.now scratch.now) otherwise }
 {
-    if fit::taken(g, slot0.len(), slot1.len(), scratch.len()) {
-        standing_of(decision::asks(g, slot0, slot1, scratch))
-    } else {
-        Err(Refusal::Geometry)
-    }
+    let Some(fit) = fit::taken(g, slot0.len(), slot1.len(), scratch.len()) else {
+        return Err(Refusal::Geometry);
+    };
+    standing_of(decision::asks(g, slot0, slot1, scratch))?;
+    Ok(fit)
 }
 
 #[tactic(auto, unfolding(crate::specs::Marking::ending_of))]
@@ -69,60 +69,58 @@ fn written(all: u64, run: Run) -> Marked
     }
 }
 
-fn is_unmarked(g: Geometry, slot1: &[u8]) -> bool
-    requires { Small g }
-    ensures { result ≡ unmarked g (flash_of [] slot1.now []) }
+fn is_unmarked(fit: Fit, slot1: &[u8]) -> bool
+    ensures { result ≡ unmarked fit.g (flash_of [] slot1.now []) }
 {
-    let t = Trailer::of_slot(g, slot1);
+    let t = Trailer::of_slot(fit.g, slot1);
     t.image_ok() == Mark::Unset && t.magic() == Magic::Unset
 }
 
-fn is_confirmable(g: Geometry, slot0: &[u8]) -> bool
-    requires { Small g }
-    ensures { result ≡ confirmable g (flash_of slot0.now [] []) }
+fn is_confirmable(fit: Fit, slot0: &[u8]) -> bool
+    ensures { result ≡ confirmable fit.g (flash_of slot0.now [] []) }
 {
-    let t = Trailer::of_slot(g, slot0);
+    let t = Trailer::of_slot(fit.g, slot0);
     t.magic() == Magic::Good && t.copy_done() == Mark::Value(1) && t.image_ok() == Mark::Unset
 }
 
 // The writes that marking takes.
-fn mark_writes(g: Geometry, permanent: bool) -> u64
-    requires { Small g }
-    ensures { result ≡ length (ok_ops (build g) Area.slot1 permanent ++ magic_ops (build g) Area.slot1) }
+fn mark_writes(fit: Fit, permanent: bool) -> u64
+    ensures { result ≡ length (ok_ops (build fit.g) Area.slot1 permanent ++ magic_ops (build fit.g) Area.slot1) }
 {
-    let magic = g.units_in(Bytes(16)).0 as u64;
+    let magic = fit.g.units_in(Bytes(16)).0 as u64;
     if permanent { 1 + magic } else { magic }
 }
 
 // Marking where no exchange is under way. Slot 0 and scratch, x0 and x2, have no part in it.
-pub fn mark_free(g: Geometry, slot1: &mut [u8], permanent: bool) -> Marked
-    requires { Small g }
+pub fn mark_free(fit: Fit, slot1: &mut [u8], permanent: bool) -> Marked
     ensures { (x0 x2 : List ℕ) → mark_result result (flash_of x0 slot1.new x2)
-        ≡ mark_unless_marked permanent g (flash_of x0 slot1.old x2) }
+        ≡ mark_unless_marked permanent fit.g (flash_of x0 slot1.old x2) }
 {
-    if !is_unmarked(g, slot1) {
+    if !is_unmarked(fit, slot1) {
         return refuse(Refusal::Marks);
     }
-    let all = mark_writes(g, permanent);
+    let all = mark_writes(fit, permanent);
     let start = Run {
         left: all,
         end: End::Going,
     };
-    written(all, lines::ok_and_magic(g, slot1, permanent, start))
+    written(all, lines::ok_and_magic(fit.g, slot1, permanent, start))
 }
 
 // Confirming where no exchange is under way.
-pub fn confirm_free(g: Geometry, slot0: &mut [u8]) -> Marked
-    requires { Small g }
+pub fn confirm_free(fit: Fit, slot0: &mut [u8]) -> Marked
     ensures { (x1 x2 : List ℕ) → mark_result result (flash_of slot0.new x1 x2)
-        ≡ confirm_if_needed g (flash_of slot0.old x1 x2) }
+        ≡ confirm_if_needed fit.g (flash_of slot0.old x1 x2) }
 {
-    if !is_confirmable(g, slot0) {
+    if !is_confirmable(fit, slot0) {
         return refuse(Refusal::Needs);
     }
     let start = Run {
         left: 1,
         end: End::Going,
     };
-    written(1, writes::write_ok(g, slot0, g.last_sector(), true, start))
+    written(
+        1,
+        writes::write_ok(fit.g, slot0, fit.g.last_sector(), true, start),
+    )
 }

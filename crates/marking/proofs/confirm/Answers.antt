@@ -1,4 +1,5 @@
-use Rattle.std.proofs.Common.{◌∙◌}
+use Rattle.std.proofs.Common.{ap, ◌∙◌}
+use Rattle.flash.specs.declared.Geometry.{Geometry}
 use Rattle.plan.specs.Asked.{flash_of}
 use Rattle.marking.specs.Marking.{confirm_if_needed, confirming}
 use Rattle.marking.specs.MarkResults.{refusing_mark}
@@ -10,6 +11,7 @@ unfolding confirming by_standing
 returns-in-Ok c =
     let given = c.args in
     c.confirm_free.ensures given.slot1.now given.scratch.now
+    ∙ ap (λ (g : Geometry). confirm_if_needed g (flash_of given.slot0.now given.slot1.now given.scratch.now)) c.in-Ok.ensures.same
     ∙ c.in-Ok.ensures.asked (confirm_if_needed given.g (flash_of given.slot0.now given.slot1.now given.scratch.now))
 
 pub returns-in-Err : goal.returns-in-Err

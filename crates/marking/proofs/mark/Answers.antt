@@ -1,4 +1,5 @@
-use Rattle.std.proofs.Common.{◌∙◌}
+use Rattle.std.proofs.Common.{ap, ◌∙◌}
+use Rattle.flash.specs.declared.Geometry.{Geometry}
 use Rattle.plan.specs.Asked.{flash_of}
 use Rattle.marking.specs.Marking.{mark_unless_marked, marking}
 use Rattle.marking.specs.MarkResults.{refusing_mark}
@@ -10,6 +11,7 @@ unfolding marking by_standing
 returns-in-Ok c =
     let given = c.args in
     c.mark_free.ensures given.slot0.now given.scratch.now
+    ∙ ap (λ (g : Geometry). mark_unless_marked given.permanent g (flash_of given.slot0.now given.slot1.now given.scratch.now)) c.in-Ok.ensures.same
     ∙ c.in-Ok.ensures.asked (mark_unless_marked given.permanent given.g (flash_of given.slot0.now given.slot1.now given.scratch.now))
 
 pub returns-in-Err : goal.returns-in-Err

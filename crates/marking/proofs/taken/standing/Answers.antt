@@ -1,41 +1,32 @@
-use Rattle.std.proofs.Common.{OnOk, Ok, Err, Result, sym, false, length, true, ◌∙◌, ◌≡◌}
-use Rattle.flash.specs.Build.{fits, valid}
-use Rattle.flash.specs.Base.{build}
-use Rattle.fit.specs.Taken.{small_fits}
+use Rattle.std.proofs.Common.{Result, ap, sym, ◌∙◌, ◌≡◌}
+use Rattle.std.specs.Prelude.{⊤}
+use Rattle.std.proofs.lemmas.Result.{err_from_is_err_and}
+use Rattle.flash.specs.Build.{valid}
+use Rattle.answers.specs.declared.Refusal.{Refusal}
 use Rattle.plan.specs.Asked.{flash_of, asked_by}
 use Rattle.marking.specs.Marking.{unless_refused}
-use Rattle.marking.specs.Standing.{by_standing, standing_says}
+use Rattle.marking.specs.Standing.{by_standing, standing_of, standing_says}
 use Rattle.marking.proofs.taken.standing.Goals as goal
 
-pub asks-requires : goal.asks-requires
-asks-requires c =
-    let given = c.args in
-    small_fits given.g (length given.slot0.now) (length given.slot1.now) (length given.scratch.now)
-    (sym c.taken.ensures ∙ c.if-taken.true)
-
-pub returns-then-taken-clause-small : goal.returns-then-taken-clause-small
-returns-then-taken-clause-small c =
-    let given = c.args in
-    on_ok c.standing_of.result (small_fits given.g (length given.slot0.now) (length given.slot1.now) (length given.scratch.now)
-    (sym c.taken.ensures ∙ c.if-taken.true))
-  where
-    on_ok : {T E P : Type 0} (r : Result T E) → P → OnOk r P
-    on_ok (Ok x) p = p
-    on_ok (Err e) p = tt
-
-pub returns-then-taken-clause-asked : goal.returns-then-taken-clause-asked
-unfolding unless_refused valid
-returns-then-taken-clause-asked c =
-    let given = c.args in
-    let f = flash_of given.slot0.now given.slot1.now given.scratch.now in
-    let fit : fits (build given.g) (length given.slot0.now) (length given.slot1.now) (length given.scratch.now) ≡ true =
-    sym c.taken.ensures ∙ c.if-taken.true in
-    λ otherwise. rw (c.standing_of.ensures, c.asks.ensures, fit) (standing_says (asked_by given.g f) f otherwise)
-
-pub returns-else-taken-clause-asked : goal.returns-else-taken-clause-asked
+pub returns-in_default-clause-asked : goal.returns-in_default-clause-asked
 unfolding unless_refused valid by_standing
-returns-else-taken-clause-asked c =
-    let given = c.args in
-    let fit : fits (build given.g) (length given.slot0.now) (length given.slot1.now) (length given.scratch.now) ≡ false =
-    sym c.taken.ensures ∙ c.if-taken.false in
-    λ otherwise. rw fit
+returns-in_default-clause-asked c = λ otherwise. rw (sym c.in_default.ensures.fits)
+
+pub returns-in_err-standing_of-clause-asked : goal.returns-in_err-standing_of-clause-asked
+unfolding unless_refused valid by_standing
+returns-in_err-standing_of-clause-asked c =
+    let f = flash_of c.args.slot0.now c.args.slot1.now c.args.scratch.now in
+    let stands : c.standing_of.result ≡ standing_of (asked_by c.args.g f) = c.standing_of.ensures ∙ ap standing_of c.asks.ensures in
+    let p = err_from_is_err_and c.from_residual.result c.from_residual.ensures.1 in
+    λ otherwise. rw (p.1, p.2, sym c.in-Some.ensures.fits)
+    (ap (λ (r : Result ⊤ Refusal). by_standing r f otherwise) (sym c.in_err-standing_of.was ∙ stands)
+    ∙ standing_says (asked_by c.args.g f) f otherwise)
+
+pub returns-clause-asked : goal.returns-clause-asked
+unfolding unless_refused valid by_standing
+returns-clause-asked c =
+    let f = flash_of c.args.slot0.now c.args.slot1.now c.args.scratch.now in
+    let stands : c.standing_of.result ≡ standing_of (asked_by c.args.g f) = c.standing_of.ensures ∙ ap standing_of c.asks.ensures in
+    λ otherwise. rw (sym c.in-Some.ensures.fits)
+    (ap (λ (r : Result ⊤ Refusal). by_standing r f otherwise) (sym c.in_ok-standing_of.was ∙ stands)
+    ∙ standing_says (asked_by c.args.g f) f otherwise)

@@ -1,6 +1,6 @@
 use Rattle.fit.specs.Taken.{small}
-use Rattle.fit.proofs.taken.Goals.{then-unit_taken, else-unit_taken}
-use Rattle.fit.proofs.taken.Goals as goal
+use Rattle.fit.proofs.is_taken.Goals.{then-unit_taken, else-unit_taken}
+use Rattle.fit.proofs.is_taken.Goals as goal
 
 pub lengths_taken-requires : goal.lengths_taken-requires
 lengths_taken-requires c =
