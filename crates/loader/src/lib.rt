@@ -22,10 +22,9 @@ pub fn full_start(
     ensures { result_of result (flash_of slot0.new slot1.new scratch.new)
         ≡ full_start checked g allowance (flash_of slot0.old slot1.old scratch.old) }
 {
-    if fit::taken(g, slot0.len(), slot1.len(), scratch.len()) {
-        starts::start_taken(g, slot0, slot1, scratch, allowance, checked)
-    } else {
-        starts::refuse(Refusal::Geometry)
+    match fit::taken(g, slot0.len(), slot1.len(), scratch.len()) {
+        Some(fit) => starts::start_taken(fit, slot0, slot1, scratch, allowance, checked),
+        None => starts::refuse(Refusal::Geometry),
     }
 }
 

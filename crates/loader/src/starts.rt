@@ -1,7 +1,6 @@
 // The parts of a power-up, for a geometry and areas that are taken.
 ghost use Rattle.std.specs.Prelude.{◌≡◌, true, []};
 ghost use Rattle.flash.specs.Base.{build};
-ghost use Rattle.flash.specs.Small.{Small};
 ghost use Rattle.causes.specs.Check.{accepted, head, check};
 ghost use Rattle.plan.specs.Asked.{flash_of};
 ghost use Rattle.plan.specs.Bounds.{in_bounds};
@@ -9,7 +8,8 @@ ghost use Rattle.plan.specs.Decision.{decide};
 ghost use Rattle.loader.specs.PowerUp.{result_of, started, data_of, ended, carried, answered, on_course};
 
 use answers::{Answer, Outcome, Refusal};
-use flash::{End, Geometry, Run};
+use fit::Fit;
+use flash::{End, Run};
 use plan::{Course, Done};
 
 pub fn refuse(refusal: Refusal) -> Answer
@@ -24,29 +24,26 @@ pub fn refuse(refusal: Refusal) -> Answer
 }
 
 // The data bytes of a slot.
-fn data_of(g: Geometry, slot: &[u8]) -> &[u8]
-    requires { Small g }
-    ensures { result.now ≡ data_of g slot.now }
+fn data_of(fit: Fit, slot: &[u8]) -> &[u8]
+    ensures { result.now ≡ data_of fit.g slot.now }
 {
-    &slot[..g.data_bytes().0.min(slot.len())]
+    &slot[..fit.g.data_bytes().0.min(slot.len())]
 }
 
-fn slot_accepted(g: Geometry, slot: &[u8]) -> bool
-    requires { Small g }
-    ensures { result ≡ accepted (data_of g slot.now) }
+fn slot_accepted(fit: Fit, slot: &[u8]) -> bool
+    ensures { result ≡ accepted (data_of fit.g slot.now) }
 {
-    image::check(data_of(g, slot)).is_ok()
+    image::check(data_of(fit, slot)).is_ok()
 }
 
 // A, B and C, and the image check where C asks for it.
-fn decided(g: Geometry, slot0: &[u8], slot1: &[u8], scratch: &[u8]) -> Course
-    requires { Small g }
-    ensures { (result ≡ decide accepted (build g) (flash_of slot0.now slot1.now scratch.now)) ×
-        (in_bounds (build g) result ≡ true) }
+fn decided(fit: Fit, slot0: &[u8], slot1: &[u8], scratch: &[u8]) -> Course
+    ensures { (result ≡ decide accepted (build fit.g) (flash_of slot0.now slot1.now scratch.now)) ×
+        (in_bounds (build fit.g) result ≡ true) }
 {
-    let asked = decision::asks(g, slot0, slot1, scratch);
+    let asked = decision::asks(fit.g, slot0, slot1, scratch);
     if decision::course::wants_check(asked) {
-        decision::course::judge(slot_accepted(g, slot1), asked)
+        decision::course::judge(slot_accepted(fit, slot1), asked)
     } else {
         asked
     }
@@ -69,12 +66,11 @@ fn boot_data(image: &[u8], checked: bool) -> Outcome
 }
 
 #[tactic(auto, unfolding(crate::specs::PowerUp::ended, crate::specs::PowerUp::boot_of))]
-fn outcome_of(g: Geometry, slot0: &[u8], end: End, checked: bool) -> Outcome
-    requires { Small g }
-    ensures { result ≡ ended checked g (flash_of slot0.now [] []) end }
+fn outcome_of(fit: Fit, slot0: &[u8], end: End, checked: bool) -> Outcome
+    ensures { result ≡ ended checked fit.g (flash_of slot0.now [] []) end }
 {
     match end {
-        End::Going => boot_data(data_of(g, slot0), checked),
+        End::Going => boot_data(data_of(fit, slot0), checked),
         End::Stopped => Outcome::Stopped,
         End::Unerased => Outcome::Refused(Refusal::Unerased),
     }
@@ -82,7 +78,7 @@ fn outcome_of(g: Geometry, slot0: &[u8], end: End, checked: bool) -> Outcome
 
 // The list of a course under the allowance, and what comes of it.
 fn take_course(
-    g: Geometry,
+    fit: Fit,
     course: Course,
     slot0: &mut [u8],
     slot1: &mut [u8],
@@ -90,43 +86,41 @@ fn take_course(
     allowance: u64,
     checked: bool,
 ) -> Answer
-    requires small { Small g }
-    requires course_value { in_bounds (build g) course ≡ true }
+    requires { in_bounds (build fit.g) course ≡ true }
     ensures { result_of result (flash_of slot0.new slot1.new scratch.new)
-        ≡ answered checked g allowance course (carried g allowance
+        ≡ answered checked fit.g allowance course (carried fit.g allowance
         (flash_of slot0.old slot1.old scratch.old) course) }
 {
     let all = Run {
         left: allowance,
         end: End::Going,
     };
-    let run = carry::carry_out(g, course, slot0, slot1, scratch, all);
+    let run = carry::carry_out(fit.g, course, slot0, slot1, scratch, all);
     Answer {
         done: decision::course::done_of(course),
         found: decision::course::found_of(course),
         count: allowance - run.left,
-        outcome: outcome_of(g, slot0, run.end, checked),
+        outcome: outcome_of(fit, slot0, run.end, checked),
     }
 }
 
 // Refusal 2 before anything is written, or the list in force.
 pub fn start_taken(
-    g: Geometry,
+    fit: Fit,
     slot0: &mut [u8],
     slot1: &mut [u8],
     scratch: &mut [u8],
     allowance: u64,
     checked: bool,
 ) -> Answer
-    requires { Small g }
     ensures { result_of result (flash_of slot0.new slot1.new scratch.new)
-        ≡ on_course checked g allowance (flash_of slot0.old slot1.old scratch.old)
-        (decide accepted (build g) (flash_of slot0.old slot1.old scratch.old)) }
+        ≡ on_course checked fit.g allowance (flash_of slot0.old slot1.old scratch.old)
+        (decide accepted (build fit.g) (flash_of slot0.old slot1.old scratch.old)) }
 {
-    let course = decided(g, slot0, slot1, scratch);
+    let course = decided(fit, slot0, slot1, scratch);
     if course == Course::Damage {
         refuse(Refusal::Damage)
     } else {
-        take_course(g, course, slot0, slot1, scratch, allowance, checked)
+        take_course(fit, course, slot0, slot1, scratch, allowance, checked)
     }
 }

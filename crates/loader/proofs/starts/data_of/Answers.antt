@@ -9,6 +9,6 @@ pub returns : goal.returns
 unfolding data_of
 returns c =
     let slot = c.args.slot.now in
-    let n = (data_bytes c.args.g).0 in
+    let n = (data_bytes c.args.fit.g).0 in
     let cut : c.min.result ≡ min n (length slot) = c.min.ensures ∙ ap (λ (b : Bytes). min b.0 (length slot)) c.data_bytes.ensures in
     rw cut (sym (take_min (length slot) n slot) ∙ take_all (length slot) (take n slot) (simp length-take (omega arith)))

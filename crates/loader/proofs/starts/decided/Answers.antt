@@ -13,43 +13,43 @@ pub returns-then-wants_check : goal.returns-then-wants_check
 unfolding data_of
 returns-then-wants_check c =
     let given = c.args in
-    let e : c.judge.result ≡ decide accepted (build given.g)
+    let e : c.judge.result ≡ decide accepted (build given.fit.g)
     (flash_of given.slot0.now
     given.slot1.now
     given.scratch.now) =
     c.judge.ensures ∙ ap₂ judged c.slot_accepted.ensures c.asks-asked.ensures ∙ sym
-    (decide_checked accepted given.g (flash_of
+    (decide_checked accepted given.fit.g (flash_of
     given.slot0.now
     given.slot1.now
     given.scratch.now)) in (
       e,
-      ap (in_bounds (build given.g)) (c.judge.ensures ∙ ap
+      ap (in_bounds (build given.fit.g)) (c.judge.ensures ∙ ap
           (judged _) c.asks-asked.ensures)
-          ∙ judged_bounded (build given.g)
-          c.slot_accepted.result (asked_by given.g
+          ∙ judged_bounded (build given.fit.g)
+          c.slot_accepted.result (asked_by given.fit.g
           (flash_of given.slot0.now
           given.slot1.now
           given.scratch.now)) (asks_bounded (build
-          given.g) _ _ _),
+          given.fit.g) _ _ _),
     )
 
 pub returns-else-wants_check : goal.returns-else-wants_check
 returns-else-wants_check c =
     let given = c.args in
-    let a : asked_by given.g (flash_of
+    let a : asked_by given.fit.g (flash_of
     given.slot0.now
     given.slot1.now
     given.scratch.now) ≡ c.asks-asked.result = sym
     c.asks-asked.ensures in
-    let w : asks_check (asked_by given.g (flash_of
+    let w : asks_check (asked_by given.fit.g (flash_of
     given.slot0.now
     given.slot1.now
     given.scratch.now)) ≡ false = ap asks_check a ∙ sym
     c.wants_check.ensures ∙ c.if-wants_check.false in (
-      c.asks-asked.ensures ∙ sym (decide_unchecked accepted given.g
+      c.asks-asked.ensures ∙ sym (decide_unchecked accepted given.fit.g
           (flash_of given.slot0.now
           given.slot1.now
           given.scratch.now) w),
-      ap (in_bounds (build given.g)) c.asks-asked.ensures
-          ∙ asks_bounded (build given.g) _ _ _,
+      ap (in_bounds (build given.fit.g)) c.asks-asked.ensures
+          ∙ asks_bounded (build given.fit.g) _ _ _,
     )

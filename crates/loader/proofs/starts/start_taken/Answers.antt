@@ -11,8 +11,8 @@ returns-then-eq c =
     let f = flash_of given.slot0.now given.slot1.now given.scratch.now in
     let asked : c.eq.result ≡ is_damage c.decided-course.result = search rules in
     refusing _ _ f c.refuse.ensures
-    ∙ sym (damaged given.checked given.g given.allowance f c.decided-course.result (sym asked ∙ c.if-eq.true))
-    ∙ ap (on_course given.checked given.g given.allowance f) c.decided-course.ensures.0
+    ∙ sym (damaged given.checked given.fit.g given.allowance f c.decided-course.result (sym asked ∙ c.if-eq.true))
+    ∙ ap (on_course given.checked given.fit.g given.allowance f) c.decided-course.ensures.0
 
 pub returns-else-eq : goal.returns-else-eq
 unfolding is_damage
@@ -21,5 +21,5 @@ returns-else-eq c =
     let f = flash_of given.slot0.now given.slot1.now given.scratch.now in
     let asked : c.eq.result ≡ is_damage c.decided-course.result = search rules in
     c.take_course.ensures
-    ∙ sym (undamaged given.checked given.g given.allowance f c.decided-course.result (sym asked ∙ c.if-eq.false))
-    ∙ ap (on_course given.checked given.g given.allowance f) c.decided-course.ensures.0
+    ∙ sym (undamaged given.checked given.fit.g given.allowance f c.decided-course.result (sym asked ∙ c.if-eq.false))
+    ∙ ap (on_course given.checked given.fit.g given.allowance f) c.decided-course.ensures.0

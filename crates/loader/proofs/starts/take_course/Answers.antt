@@ -18,7 +18,7 @@ overflow_sub-result c =
       arith,
       left,
       steps_left (build
-          given.g) (list_of (build given.g) (ok_unset (build given.g)
+          given.fit.g) (list_of (build given.fit.g) (ok_unset (build given.fit.g)
           (flash_of given.slot0.now given.slot1.now given.scratch.now)) given.course)
           (start given.allowance (flash_of given.slot0.now given.slot1.now given.scratch.now)),
     )
@@ -28,9 +28,9 @@ unfolding carried
 returns c =
     let given =
     c.args in
-    took given.checked given.g given.allowance given.course _ _ _
+    took given.checked given.fit.g given.allowance given.course _ _ _
     c.carry_out-run.result _
     _ _ c.done_of.ensures c.found_of.ensures
     c.outcome_of.ensures
-    ∙ ap (answered given.checked given.g given.allowance given.course)
+    ∙ ap (answered given.checked given.fit.g given.allowance given.course)
     c.carry_out-run.ensures
