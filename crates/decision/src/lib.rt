@@ -18,6 +18,7 @@ use marks::Trailer;
 use plan::Course;
 use trailer::{Magic, Mark};
 
+#[tactic(auto, unfolding(plan::specs::Decision::step_a, trailer::specs::Trailer::is_unset, trailer::specs::Trailer::has_value))]
 fn step_a(t2: Trailer) -> Course
     requires { Small t2.g }
     ensures { result ≡ step_a (build t2.entry.g) t2.entry.bytes.now }

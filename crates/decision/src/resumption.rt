@@ -35,6 +35,7 @@ fn continue_run(t0: Trailer, c: usize, otherwise: Course) -> Course
 }
 
 // Whether B reads the marks.
+#[tactic(auto, unfolding(trailer::specs::Trailer::is_good, trailer::specs::Trailer::is_unset))]
 fn is_unfinished(t0: Trailer) -> bool
     requires { Small t0.g }
     ensures { result ≡ marks_read (build t0.entry.g) t0.entry.bytes.now }
@@ -43,6 +44,7 @@ fn is_unfinished(t0: Trailer) -> bool
 }
 
 // otherwise is the course of C, for where no exchange is under way.
+#[tactic(auto, unfolding(plan::specs::Decision::step_b))]
 pub fn step_b(t0: Trailer, otherwise: Course) -> Course
     requires { Small t0.g }
     ensures { result ≡ step_b (build t0.entry.g) t0.entry.bytes.now otherwise }

@@ -19,6 +19,7 @@ pub fn magic_bytes() -> [u8; 16]
 }
 
 impl<'a> Trailer<'a> {
+    #[tactic(auto, using(crate::specs::MagicLaws::magic_good, crate::specs::MagicLaws::magic_unset, crate::specs::MagicLaws::magic_bad))]
     pub fn magic(self) -> Magic
         requires { Small self.g }
         ensures { result ≡ magic_of (build self.entry.g) self.entry.bytes.now }

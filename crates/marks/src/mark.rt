@@ -11,6 +11,7 @@ use trailer::Mark;
 
 impl<'a> Trailer<'a> {
     // What the unit at a place says as a mark.
+    #[tactic(auto, unfolding(flash::specs::Base::base))]
     pub fn mark_in(self, place: Offset) -> Mark
         requires small { Small self.g }
         requires place_le_sector { place.0 ≤ self.g.sector }
@@ -27,6 +28,7 @@ impl<'a> Trailer<'a> {
         }
     }
 
+    #[tactic(auto, unfolding(flash::specs::Base::base))]
     pub fn image_ok(self) -> Mark
         requires { Small self.g }
         ensures { result ≡ mark_of (build self.entry.g) self.entry.bytes.now (ok_at (build self.entry.g)) }
@@ -34,6 +36,7 @@ impl<'a> Trailer<'a> {
         self.mark_in(Part::ImageOk.place(self.g))
     }
 
+    #[tactic(auto, unfolding(flash::specs::Base::base))]
     pub fn copy_done(self) -> Mark
         requires { Small self.g }
         ensures { result ≡ mark_of (build self.entry.g) self.entry.bytes.now (copy_done_at (build self.entry.g)) }

@@ -45,6 +45,7 @@ impl<'a> Trailer<'a> {
     }
 
     // Whether mark number k is as a run of c marks has it: 01, 02 and 03 in turn, then Unset.
+    #[tactic(auto, unfolding(flash::specs::Base::base, trailer::specs::Trailer::is_unset, trailer::specs::Trailer::has_value))]
     fn mark_fits(self, c: usize, k: usize) -> bool
         requires small { Small self.g }
         requires k_bound { k < 3 * self.g.sectors }

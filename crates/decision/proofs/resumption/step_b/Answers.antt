@@ -11,7 +11,3 @@ returns-then-is_unfinished c =
     rw unfinished
     (c.continue_run.ensures
     ∙ ap (λ (n : ℕ). continue (build a.t0.g) a.t0.bytes.now n a.otherwise) c.written_marks.ensures)
-
-pub returns-else-is_unfinished : goal.returns-else-is_unfinished
-unfolding step_b
-returns-else-is_unfinished c = rw (sym c.is_unfinished.ensures ∙ c.if-is_unfinished.false)
