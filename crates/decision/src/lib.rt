@@ -23,13 +23,10 @@ fn step_a(t2: Trailer) -> Course
     requires { Small t2.g }
     ensures { result ≡ step_a (build t2.entry.g) t2.entry.bytes.now }
 {
-    let ok = t2.image_ok();
-    if ok == Mark::Unset {
-        Course::FromLineThree(false)
-    } else if ok == Mark::Value(1) {
-        Course::FromLineThree(true)
-    } else {
-        Course::Damage
+    match t2.image_ok() {
+        Mark::Unset => Course::FromLineThree(false),
+        Mark::Value(1) => Course::FromLineThree(true),
+        _ => Course::Damage,
     }
 }
 

@@ -24,12 +24,11 @@ pub fn state_c(t0: Trailer, t1: Trailer) -> Course
     requires same { t1.g ≡ t0.g }
     ensures { result ≡ state_c (build t0.entry.g) t0.entry.bytes.now t1.entry.bytes.now }
 {
-    let ok = t1.image_ok();
-    match t1.magic() {
+    match (t1.magic(), t1.image_ok()) {
         // State I, state II, state III.
-        Magic::Good if ok == Mark::Unset => Course::Test,
-        Magic::Good if ok == Mark::Value(1) => Course::Permanent,
-        Magic::Unset if is_on_trial(t0) => Course::Revert,
+        (Magic::Good, Mark::Unset) => Course::Test,
+        (Magic::Good, Mark::Value(1)) => Course::Permanent,
+        (Magic::Unset, _) if is_on_trial(t0) => Course::Revert,
         _ => Course::Nothing,
     }
 }
