@@ -17,5 +17,6 @@ pub fn four(s: &[u8], at: usize) -> usize
     requires { at + 4 ≤ length s.now }
     ensures { (result ≡ field s.now at 4) × (result < 4294967296) }
 {
+    // stays: std has no `From<u32>` for usize.
     u32::from_le_bytes([s[at], s[at + 1], s[at + 2], s[at + 3]]) as usize
 }

@@ -22,9 +22,8 @@ impl<'a> Reader<'a> {
         Reader { area, at: 0 }
     }
 
-    // stays: it tells a stump from the end and leaves the reader where it is, as `record_at` asks; an `Iterator`'s would move on, and end
-    // with one `None` for both.
     // The record at the reader's place, `End` where the area ends there, `Stump` where what is left makes no record.
+    // stays: an `Iterator`'s `next` would move the reader on, which this promises not to, and end with one `None` for both.
     pub fn next(self) -> Step
         ensures { result ≡ step_at self.entry.area.now self.entry.at }
     {

@@ -35,7 +35,8 @@ impl From<Step> for RecordNumbers {
             },
             Step::Record { kind, start, size } => RecordNumbers {
                 found: 1,
-                kind: kind as u64,
+                kind: u64::from(kind),
+                // stays: std has no `From<usize>` for u64.
                 start: start as u64,
                 size: size as u64,
             },

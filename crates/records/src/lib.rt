@@ -7,6 +7,7 @@ ghost use Rattle.records.specs.Walk.{Walked, walked, place_or_cause};
 
 // What stands at a place of an area of records: nothing more, bytes that make no whole record, or a record, whose size bytes begin
 // at start.
+// stays: three cases, each with a name; `Option<Result<Record, Stump>>` would wrap the same three in two types.
 #[derive(Clone, Copy)]
 pub enum Step {
     End,
@@ -43,8 +44,11 @@ pub fn step_at(area: &[u8], at: usize) -> Step
     }
 }
 
+// "The digest record has type 1."
+const DIGEST: u8 = 1;
+
 // The digest records that the walk has met: how many, and of the last where its bytes stand in the image, and how many they are.
-#[derive(Clone, Copy)]
+#[derive(Clone, Copy, Default)]
 struct Digests {
     count: usize,
     place: usize,
@@ -71,15 +75,11 @@ pub fn digest_place(area: &[u8], at: usize) -> Result<usize, Fault>
     requires { at + length area.now < 2 ^ 64 }
     ensures { result ≡ place_or_cause (walked (records area.now) at 0 0 0) }
 {
-    let mut digests = Digests {
-        count: 0,
-        place: 0,
-        size: 0,
-    };
+    let mut digests = Digests::default();
     let mut rest = area;
     let mut place = at;
     while let Step::Record { kind, start, size } = step_at(rest, 0) {
-        if kind == 1 {
+        if kind == DIGEST {
             digests = Digests {
                 count: digests.count + 1,
                 place: place + start,

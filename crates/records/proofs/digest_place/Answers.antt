@@ -5,7 +5,7 @@ use Rattle.records.specs.RecordLaws.{step_end, stump_where, whole_of, rest_is, l
 use Rattle.records.specs.Walk.{place_or_cause}
 use Rattle.records.specs.WalkLaws.{walk_end, walk_stump, on_digest, on_other}
 use Rattle.records.specs.declared.Step.TheVariants.{Record, Stump}
-use Rattle.records.proofs.digest_place.Goals.{then-kind-eq1, else-kind-eq1}
+use Rattle.records.proofs.digest_place.Goals.{then-kind-eq-DIGEST, else-kind-eq-DIGEST}
 use Rattle.records.proofs.digest_place.Goals as goal
 
 pub loop-kind-smaller : goal.loop-kind-smaller
@@ -21,14 +21,14 @@ loop-kind-preserved c =
     let xs = c.loop-kind.rest.now in
     let w = whole_of xs 0 _ _ _ (sym g.ensures) in
     let shorter = length_rest xs (g.start + g.size) in
-    elim c.if-kind-eq1.branch [
-      | then-kind-eq1 b ↦
-          let e : step_at xs 0 ≡ Record 1 g.start g.size = rw b.if-kind-eq1.true at (sym g.ensures) in
+    elim c.if-kind-eq-DIGEST.branch [
+      | then-kind-eq-DIGEST b ↦
+          let e : step_at xs 0 ≡ Record 1 g.start g.size = rw b.if-kind-eq-DIGEST.true at (sym g.ensures) in
           rw b.digests-is
           (omega arith, omega arith, on_digest xs _ at met.count met.place met.size g.start g.size _ (rest_is xs (g.start + g.size)) e c.loop-kind.invariant.2)
-      | else-kind-eq1 b ↦
+      | else-kind-eq-DIGEST b ↦
           rw b.digests-is
-          (omega arith, omega arith, on_other xs _ at met.count met.place met.size g.start g.size _ (rest_is xs (g.start + g.size)) g.kind b.if-kind-eq1.false (sym g.ensures) c.loop-kind.invariant.2)
+          (omega arith, omega arith, on_other xs _ at met.count met.place met.size g.start g.size _ (rest_is xs (g.start + g.size)) g.kind b.if-kind-eq-DIGEST.false (sym g.ensures) c.loop-kind.invariant.2)
     ]
 
 pub returns-then-is_empty : goal.returns-then-is_empty

@@ -9,7 +9,7 @@ invariant-loop-kind l =
     (l.digests.count ≤ l.place)
     × (l.place + length l.rest ≡ l.initial.place + length l.initial.rest)
     × (walked (records l.rest) l.place l.digests.count l.digests.place l.digests.size
-    ≡ walked (records l.initial.rest) l.initial.place l.initial.digests.count l.initial.digests.place l.initial.digests.size)
+    ≡ walked (records l.initial.rest) l.initial.place 0 0 0)
 
 -- the rest of the area
 abbrev pub decreases-loop-kind : goal.decreases-loop-kind
