@@ -54,7 +54,7 @@ pub struct Run {
 }
 
 // The named functions that turn one kind of number into another.
-// stays: `requires Small self`, no invariant of the type: `fit::taken` and the entry points are handed any three numbers, and refuse some.
+// stays: `requires Small self`, and of public functions above: docs/PROMISES.md names them, and a type like `fit::Fit` would be narrower.
 impl Geometry {
     pub fn start_of(self, i: Sector) -> Offset
         requires small { Small self }
