@@ -1,8 +1,8 @@
 -- What the whole walk over the trailing records comes to.
-use Rattle.std.specs.Prelude.{◌≡◌, refl, List, [], ◌∷◌, Bool, true, false, ℕ, ◌+◌, ◌≤◌, eqb, Result, Ok, Err}
+use Rattle.std.specs.Prelude.{◌≡◌, refl, List, [], ◌∷◌, Bool, true, false, ℕ, ◌+◌, ◌<◌, ◌≤◌, length, eqb, Result, Ok, Err}
 use Rattle.std.proofs.Common.{arith, ne_eqb}
 use Rattle.spans.specs.Choice.{pick}
-use Rattle.records.specs.Records.{Split, Place, digests}
+use Rattle.records.specs.Records.{Trailing, Split, Place, digests}
 use Rattle.records.specs.Walk.{counted, unless_over, walked, place_or_cause}
 use Rattle.records.specs.declared.Fault.{Fault}
 use Rattle.records.specs.declared.Fault.TheVariants.{NotOneDigest}
@@ -19,6 +19,22 @@ several : (covered : ℕ) (ds : List Place) (n place size : ℕ) → 2 ≤ n
 unfolding counted place_or_cause of_walk cause_of_fault
 several covered [] n place size h = let d : n ≡ 1 → ⊥ = λ e. omega arith in rw (ne_eqb n 1 d)
 several covered (d ∷ ds) n place size h = several covered ds (n + 1) d.at d.size (omega arith)
+
+-- no digest stands at the very start
+data Beyond : List Place → Type 0 where
+  none : Beyond []
+  more : {p : Place} {ps : List Place} → 4 < p.at → Beyond ps → Beyond (p ∷ ps)
+
+beyond : (at : ℕ) (rs : List Trailing) → 0 < at → Beyond (digests at rs)
+unfolding digests
+beyond at [] h = Beyond.none
+beyond at (r ∷ rs) h = by (eqb r.kind 1) (beyond (at + (4 + length r.bytes)) rs (omega arith))
+  where
+    by : (t : Bool) → Beyond (digests (at + (4 + length r.bytes)) rs)
+        → Beyond (pick t (record { at = at + 4; size = length r.bytes } ∷ digests (at + (4 + length r.bytes)) rs) (digests
+        (at + (4 + length r.bytes)) rs))
+    by true b = let far : 4 < at + 4 = omega arith in Beyond.more far b
+    by false b = b
 
 one : (covered : ℕ) (ds : List Place) → of_walk covered (place_or_cause (counted ds 0 0 0)) ≡ one_digest covered ds
 unfolding counted place_or_cause of_walk cause_of_fault one_digest

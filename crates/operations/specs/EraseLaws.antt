@@ -5,7 +5,7 @@ use Rattle.spans.specs.Bytes.{put, blank}
 use Rattle.flash.specs.declared.Geometry.{Geometry}
 use Rattle.flash.specs.declared.Sector.{Sector}
 use Rattle.flash.specs.declared.Run.{Run}
-use Rattle.flash.specs.declared.End.TheVariants.{Going, Stopped}
+use Rattle.flash.specs.declared.End.TheVariants.{Going, Stopped, Unerased}
 use Rattle.flash.specs.Geometry.{start_of}
 use Rattle.flash.specs.Operations.{local, going, attempt, erase_in}
 use Rattle.operations.specs.UnitLaws.{Halted, halts}
@@ -19,6 +19,14 @@ module _ (g : Geometry) (i : Sector) (xs : List ℕ) (run : Run) where
       → erase_in g i (local xs run) ≡ local (put xs (start_of g i).0 (blank g.sector)) (going (run.left - 1))
   unfolding erase_in attempt
   erase_done e l = rw (e, ne_eqb run.left 0 l)
+
+  pub erase_stopped : run.end ≡ Stopped → erase_in g i (local xs run) ≡ local xs (record { left = run.left; end = Stopped })
+  unfolding erase_in attempt
+  erase_stopped e = rw e
+
+  pub erase_unerased : run.end ≡ Unerased → erase_in g i (local xs run) ≡ local xs (record { left = run.left; end = Unerased })
+  unfolding erase_in attempt
+  erase_unerased e = rw e
 
   pub erase_ended : (run.end ≡ Going → ⊥) → erase_in g i (local xs run) ≡ local xs run
   unfolding erase_in attempt Halted

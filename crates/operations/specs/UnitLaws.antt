@@ -125,6 +125,11 @@ halts Stopped h = stopped_halts
 halts Unerased h = unerased_halts
 
 -- after a run that has ended
+pub halted_run : (g : Geometry) (k : ℕ) (u : Unit) (bs xs : List ℕ) (r : Run) (e : End) → Halted e → r.end ≡ e
+    → write_all_in g u k bs (local xs r) ≡ local xs (record { left = r.left; end = e })
+halted_run g k u bs xs r e h told =
+    ap (λ (x : End). write_all_in g u k bs (local xs (record { left = r.left; end = x }))) told ∙ halted_writes g k u bs xs r.left e h
+
 pub ended_run : (g : Geometry) (k : ℕ) (u : Unit) (bs xs : List ℕ) (r : Run) → (r.end ≡ Going → ⊥)
     → write_all_in g u k bs (local xs r) ≡ local xs r
 ended_run g k u bs xs r h = halted_writes g k u bs xs r.left r.end (halts r.end h)
