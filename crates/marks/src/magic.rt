@@ -2,10 +2,12 @@
 ghost use Rattle.std.specs.Prelude.{◌≡◌};
 ghost use Rattle.flash.specs.Base.{build};
 ghost use Rattle.flash.specs.Small.{Small};
-ghost use Rattle.trailer.specs.Trailer.{magic_bytes, magic_of};
+ghost use Rattle.flash.specs.Build.{Build};
+ghost use Rattle.trailer.specs.Trailer.{magic_at, magic_bytes, magic_of};
 
 use crate::Trailer;
 use crate::part::Part;
+use flash::Offset;
 use trailer::Magic;
 
 #[tactic(auto, unfolding(trailer::specs::Trailer::magic_bytes))]
@@ -18,19 +20,26 @@ pub fn magic_bytes() -> [u8; 16]
     ]
 }
 
+// What stands at the place of a magic. It is called with the bytes and the place alone, as each call with a Trailer would have its copy on the stack.
+#[inline(never)]
+fn words_at(bytes: &[u8], place: Offset) -> Magic
+    ensures { (g : Build) → place ≡ magic_at g → result ≡ magic_of g bytes.now }
+{
+    if compare::stands(bytes, place.0, &magic_bytes()) {
+        Magic::Good
+    } else if compare::all_blank(bytes, place.0, 16) {
+        Magic::Unset
+    } else {
+        Magic::Bad
+    }
+}
+
 impl<'a> Trailer<'a> {
-    #[tactic(auto, using(crate::specs::MagicLaws::magic_good, crate::specs::MagicLaws::magic_unset, crate::specs::MagicLaws::magic_bad))]
+    #[inline]
     pub fn magic(self) -> Magic
         requires { Small self.g }
         ensures { result ≡ magic_of (build self.entry.g) self.entry.bytes.now }
     {
-        let at = Part::Magic.place(self.g).0;
-        if compare::stands(self.bytes, at, &magic_bytes()) {
-            Magic::Good
-        } else if compare::all_blank(self.bytes, at, 16) {
-            Magic::Unset
-        } else {
-            Magic::Bad
-        }
+        words_at(self.bytes, Part::Magic.place(self.g))
     }
 }
