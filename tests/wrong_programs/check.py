@@ -130,13 +130,19 @@ def logs_of(rt, crate, edits):
 
 
 def public_functions(crate):
-    """The functions that other crates can call."""
+    """The functions that other crates can call, each with how a row of docs/PROMISES.md names it."""
     source = ROOT / "crates" / crate / "src"
     if not (source / "lib.rt").exists():
-        return []
+        return
     modules = re.findall(r"^pub mod (\w+);", (source / "lib.rt").read_text(), re.M)
-    files = [source / "lib.rt"] + [source / f"{m}.rt" for m in modules]
-    return [f for file in files for f in re.findall(r'^\s*pub (?:extern "C" )?fn (\w+)', file.read_text(), re.M)]
+    for file in [source / "lib.rt"] + [source / f"{m}.rt" for m in modules]:
+        text = file.read_text()
+        for name in re.findall(r'^\s*pub (?:extern "C" )?fn (\w+)', text, re.M):
+            yield name, rf"`(?:{crate}::)?(?:\w+::)?{name}`"
+        for made, of in re.findall(r"^impl From<(\w+)> for (\w+)", text, re.M):
+            yield f"{of}::from", rf"`{of}::from` of an? `?(?i:{made})\b`?"
+        for right, left in re.findall(r"^impl Add<(\w+)> for (\w+)", text, re.M):
+            yield f"{left} + {right}", rf"`{crate}::{left} \+ {crate}::{right}`"
 
 
 def self_test():
@@ -194,9 +200,9 @@ def main():
             names += [name for name, _, _ in HEAD.findall(text)]
     faults += [f"{name}: docs/PROMISES.md does not name it" for name in names if f"`{name}`" not in promises]
     # `line` promises nothing, and `scale_c` what `scale` does, which it calls
-    functions = [(crate, function) for crate in edits if crate not in ("line", "scale_c") for function in public_functions(crate)]
-    for crate, function in functions:
-        rows = re.findall(rf"^\| `(?:{crate}::)?(?:\w+::)?{function}` .*$", promises, re.M)
+    functions = [(crate, *it) for crate in edits if crate not in ("line", "scale_c") for it in public_functions(crate)]
+    for crate, function, named in functions:
+        rows = re.findall(rf"^\| {named} .*$", promises, re.M)
         tried = {name for row in rows for name in re.findall(r"`(\w+)`", row) if name in names}
         if len(tried) < 2:
             faults.append(f"{crate}::{function}: docs/PROMISES.md names {len(tried)} wrong programs of two")
