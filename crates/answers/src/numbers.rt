@@ -6,6 +6,7 @@ use crate::{Answer, Marked, Outcome, Refusal};
 use plan::Done;
 
 // The answer of a start; a field that does not apply is 0.
+// stays: numbers for what was done, the end and the refusal are the C interface (`struct scale_answer` of include/scale.h).
 #[repr(C)]
 #[derive(Clone, Copy)]
 pub struct Numbers {
@@ -26,6 +27,7 @@ pub struct MarkNumbers {
     pub count: u64,
 }
 
+// stays: no From, as both `Done` and u64 are of other crates.
 fn done(done: Done) -> u64
     ensures { result ≡ done_number done }
 {
