@@ -6,7 +6,7 @@ use crate::{Answer, Marked, Outcome, Refusal};
 use plan::Done;
 
 // The answer of a start; a field that does not apply is 0.
-// stays: numbers for what was done, the end and the refusal are the C interface (`struct scale_answer` of include/scale.h).
+// stays: numbers for what was done, the end and the refusal are the C interface (`scale_answer` of include/scale.h).
 #[repr(C)]
 #[derive(Clone, Copy)]
 pub struct Numbers {
