@@ -71,16 +71,6 @@ stump_of xs at e = opened (rw e at (stands xs at))
     opened : Stands xs at Stump → at < length xs
     opened (stump p) = p
 
--- what stands where bytes are left and no record begins
-pub stump_where : (xs : List ℕ) (at : ℕ) → at < length xs → ((kind start size : ℕ) → step_at xs at ≡ Record kind start size → ⊥)
-    → step_at xs at ≡ Stump
-stump_where xs at h n = by (step_at xs at) refl (stands xs at)
-  where
-    by : (s : Step) → step_at xs at ≡ s → Stands xs at s → s ≡ Stump
-    by End e (ends l) = absurd (omega arith)
-    by Stump e (stump l) = refl
-    by (Record kind start size) e w = absurd (n kind start size e)
-
 -- ---- the area as its records, with no count of what may still come
 
 -- The rest behind a first record may be split with any count that is no less than its length.

@@ -50,12 +50,12 @@ module _ (xs : List ℕ) (at n place size : ℕ) where
         four,
       )
 
--- What was met before the first record, and the rest of the area behind it, come to what the area came to.
-module _ (xs rest : List ℕ) (at n place size start size' : ℕ) (w : Walked) (rest_is : rest ≡ drop (start + size') xs) where
-  pub on_digest : step_at xs 0 ≡ Record 1 start size' → walked (records xs) at n place size ≡ w
-      → walked (records rest) (at + (start + size')) (n + 1) (at + start) size' ≡ w
-  on_digest e a = rw rest_is (sym (walk_digest xs at n place size start size' e) ∙ a)
+-- a step of the walk: the area comes to what the call on its rest does
+module _ (xs rest : List ℕ) (at n place size start size' : ℕ) (rest_is : rest ≡ drop (start + size') xs) where
+  pub on_digest : step_at xs 0 ≡ Record 1 start size'
+      → walked (records xs) at n place size ≡ walked (records rest) (at + (start + size')) (n + 1) (at + start) size'
+  on_digest e = rw rest_is (walk_digest xs at n place size start size' e)
 
-  pub on_other : (kind : ℕ) → (kind ≡ 1 → ⊥) → step_at xs 0 ≡ Record kind start size' → walked (records xs) at n place size ≡ w
-      → walked (records rest) (at + (start + size')) n place size ≡ w
-  on_other kind d e a = rw rest_is (sym (walk_other xs at n place size kind start size' d e) ∙ a)
+  pub on_other : (kind : ℕ) → (kind ≡ 1 → ⊥) → step_at xs 0 ≡ Record kind start size'
+      → walked (records xs) at n place size ≡ walked (records rest) (at + (start + size')) n place size
+  on_other kind d e = rw rest_is (walk_other xs at n place size kind start size' d e)

@@ -4,6 +4,7 @@
 ghost use Rattle.std.specs.Prelude.{◌≡◌, ◌+◌, ◌^◌, ◌<◌, ◌≤◌, length};
 ghost use Rattle.records.specs.Records.{step_at, records};
 ghost use Rattle.records.specs.Walk.{Walked, walked, place_or_cause};
+ghost use Rattle.spans.specs.Choice.{pick};
 
 // What stands at a place of an area of records: nothing more, bytes that make no whole record, or a record, whose size bytes begin
 // at start.
@@ -69,28 +70,43 @@ impl Digests {
     }
 }
 
-// The first record, and then the rest of the area by the same rule. The area stands at `at` of the image.
-#[tactic(auto, using(crate::specs::RecordLaws::whole_of))]
+// The first record, and then the rest of the area by the same rule: whether the records fill the area, which stands at `at` of the
+// image. Those of type 1 are added to the digests met before. The area and the digests are lent on in the caller's place, and the answer
+// is a bool: so the call is the last act, and the compiler needs no stack for a record.
+#[tactic(auto, using(crate::specs::RecordLaws::whole_of, crate::specs::WalkLaws::walk_end, crate::specs::WalkLaws::walk_stump))]
+fn walk(area: &mut &[u8], at: usize, digests: &mut Digests) -> bool
+    requires { (digests.old.count ≤ at) × (at + length area.old.now < 2 ^ 64) }
+    ensures { walked (records area.old.now) at digests.old.count digests.old.place digests.old.size
+        ≡ pick result (Walked.Filled digests.new.count digests.new.place digests.new.size) Walked.Short }
+{
+    let all = *area;
+    match step_at(all, 0) {
+        Step::End => true,
+        Step::Stump => false,
+        Step::Record { kind, start, size } => {
+            if kind == DIGEST {
+                *digests = Digests {
+                    count: digests.count + 1,
+                    place: at + start,
+                    size,
+                };
+            }
+            let next = start + size;
+            *area = &all[next..];
+            walk(area, at + next, digests)
+        }
+    }
+}
+
+// Where the one digest of 32 bytes stands, of the whole area, which stands at `at` of the image; or why the records name none.
+#[tactic(auto, unfolding(crate::specs::Walk::place_or_cause))]
 pub fn digest_place(area: &[u8], at: usize) -> Result<usize, Fault>
     requires { at + length area.now < 2 ^ 64 }
     ensures { result ≡ place_or_cause (walked (records area.now) at 0 0 0) }
 {
-    let mut digests = Digests::default();
     let mut rest = area;
-    let mut place = at;
-    while let Step::Record { kind, start, size } = step_at(rest, 0) {
-        if kind == DIGEST {
-            digests = Digests {
-                count: digests.count + 1,
-                place: place + start,
-                size,
-            };
-        }
-        let next = start + size;
-        rest = &rest[next..];
-        place += next;
-    }
-    if rest.is_empty() {
+    let mut digests = Digests::default();
+    if walk(&mut rest, at, &mut digests) {
         digests.only()
     } else {
         Err(Fault::NotFilled)
