@@ -1,6 +1,8 @@
 // What the loader answers.
 #![tactic(auto)]
 
+ghost use Rattle.std.specs.Prelude.{◌≡◌, Err};
+
 use causes::Cause;
 use plan::Done;
 
@@ -43,9 +45,39 @@ pub struct Answer {
     pub outcome: Outcome,
 }
 
+// Nothing was done.
+impl From<Refusal> for Answer {
+    ghost use Rattle.plan.specs.declared.Done.{Done};
+    ghost use Rattle.answers.specs.declared.Outcome.{Outcome};
+
+    ghost from_gives = { λ refusal answer. (answer.done ≡ Done.None) × ((answer.found ≡ 0) × ((answer.count ≡ 0) ×
+        (answer.outcome ≡ Outcome.Refused refusal))) };
+
+    fn from(refusal: Refusal) -> Answer {
+        Answer {
+            done: Done::None,
+            found: 0,
+            count: 0,
+            outcome: Outcome::Refused(refusal),
+        }
+    }
+}
+
 // How marking and confirming end: written, or refused.
 #[derive(Clone, Copy)]
 pub struct Marked {
     pub ending: Result<(), Refusal>,
     pub count: u64,
+}
+
+// Nothing was written.
+impl From<Refusal> for Marked {
+    ghost from_gives = { λ refusal marked. (marked.ending ≡ Err refusal) × (marked.count ≡ 0) };
+
+    fn from(refusal: Refusal) -> Marked {
+        Marked {
+            ending: Err(refusal),
+            count: 0,
+        }
+    }
 }

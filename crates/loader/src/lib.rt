@@ -24,7 +24,7 @@ pub fn full_start(
 {
     match fit::taken(g, slot0.len(), slot1.len(), scratch.len()) {
         Some(fit) => starts::start_taken(fit, slot0, slot1, scratch, allowance, checked),
-        None => starts::refuse(Refusal::Geometry),
+        None => Answer::from(Refusal::Geometry),
     }
 }
 

@@ -10,18 +10,7 @@ ghost use Rattle.loader.specs.PowerUp.{result_of, started, data_of, ended, carri
 use answers::{Answer, Outcome, Refusal};
 use fit::Fit;
 use flash::{End, Run};
-use plan::{Course, Done};
-
-pub fn refuse(refusal: Refusal) -> Answer
-    ensures { (result.done ≡ Done.None) × ((result.found ≡ 0) × ((result.count ≡ 0) × (result.outcome ≡ Outcome.Refused refusal))) }
-{
-    Answer {
-        done: Done::None,
-        found: 0,
-        count: 0,
-        outcome: Outcome::Refused(refusal),
-    }
-}
+use plan::Course;
 
 // The data bytes of a slot.
 fn data_of(fit: Fit, slot: &[u8]) -> &[u8]
@@ -119,7 +108,7 @@ pub fn start_taken(
 {
     let course = decided(fit, slot0, slot1, scratch);
     if course == Course::Damage {
-        refuse(Refusal::Damage)
+        Answer::from(Refusal::Damage)
     } else {
         take_course(fit, course, slot0, slot1, scratch, allowance, checked)
     }

@@ -17,7 +17,7 @@ pub fn mark(g: Geometry, slot0: &[u8], slot1: &mut [u8], scratch: &[u8], permane
 {
     match taken::standing(g, slot0, slot1, scratch) {
         Ok(fit) => taken::mark_free(fit, slot1, permanent),
-        Err(refusal) => taken::refuse(refusal),
+        Err(refusal) => Marked::from(refusal),
     }
 }
 
@@ -28,6 +28,6 @@ pub fn confirm(g: Geometry, slot0: &mut [u8], slot1: &[u8], scratch: &[u8]) -> M
 {
     match taken::standing(g, slot0, slot1, scratch) {
         Ok(fit) => taken::confirm_free(fit, slot0),
-        Err(refusal) => taken::refuse(refusal),
+        Err(refusal) => Marked::from(refusal),
     }
 }

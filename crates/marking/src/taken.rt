@@ -14,15 +14,6 @@ use marks::Trailer;
 use plan::Course;
 use trailer::{Magic, Mark};
 
-pub fn refuse(refusal: Refusal) -> Marked
-    ensures { (result.ending ≡ Err refusal) × (result.count ≡ 0) }
-{
-    Marked {
-        ending: Err(refusal),
-        count: 0,
-    }
-}
-
 // 2 and 6, or nothing against it.
 #[tactic(auto, unfolding(crate::specs::Standing::standing_of))]
 fn standing_of(course: Course) -> Result<(), Refusal>
@@ -97,7 +88,7 @@ pub fn mark_free(fit: Fit, slot1: &mut [u8], permanent: bool) -> Marked
         ≡ mark_unless_marked permanent fit.g (flash_of x0 slot1.old x2) }
 {
     if !is_unmarked(fit, slot1) {
-        return refuse(Refusal::Marks);
+        return Marked::from(Refusal::Marks);
     }
     let all = mark_writes(fit, permanent);
     let start = Run {
@@ -113,7 +104,7 @@ pub fn confirm_free(fit: Fit, slot0: &mut [u8]) -> Marked
         ≡ confirm_if_needed fit.g (flash_of slot0.old x1 x2) }
 {
     if !is_confirmable(fit, slot0) {
-        return refuse(Refusal::Needs);
+        return Marked::from(Refusal::Needs);
     }
     let start = Run {
         left: 1,

@@ -2,10 +2,9 @@
 // A read or a write that fails ends it with that error; what the input holds never does.
 #![tactic(auto)]
 
-use answers::{Answer, Outcome, Refusal};
+use answers::{Answer, Refusal};
 use flash::Geometry;
 use line::Line;
-use plan::Done;
 use std::io;
 use std::io::{ErrorKind, Read};
 
@@ -38,12 +37,7 @@ fn main(rt: HostRuntime) -> io::Result<()> {
     let answer = if whole {
         start(&mut dump)
     } else {
-        Answer {
-            done: Done::None,
-            found: 0,
-            count: 0,
-            outcome: Outcome::Refused(Refusal::Geometry),
-        }
+        Answer::from(Refusal::Geometry)
     };
     println!(rt; "{}", Line(answer))
 }

@@ -13,4 +13,4 @@ pub returns-in-None : goal.returns-in-None
 unfolding full_start valid
 returns-in-None c =
     let given = c.args in
-    rw (sym c.in-None.ensures.fits) (refusing _ _ (flash_of given.slot0.now given.slot1.now given.scratch.now) c.refuse.ensures)
+    rw (sym c.in-None.ensures.fits) (refusing _ _ (flash_of given.slot0.now given.slot1.now given.scratch.now) c.from.ensures)

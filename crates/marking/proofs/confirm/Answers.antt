@@ -18,5 +18,5 @@ pub returns-in-Err : goal.returns-in-Err
 unfolding confirming by_standing
 returns-in-Err c =
     let given = c.args in
-    refusing_mark _ _ _ c.refuse.ensures
+    refusing_mark _ _ _ c.from.ensures
     ∙ c.in-Err.ensures.asked (confirm_if_needed given.g (flash_of given.slot0.now given.slot1.now given.scratch.now))

@@ -10,7 +10,7 @@ returns-then-eq c =
     let given = c.args in
     let f = flash_of given.slot0.now given.slot1.now given.scratch.now in
     let asked : c.eq.result ≡ is_damage c.decided-course.result = search rules in
-    refusing _ _ f c.refuse.ensures
+    refusing _ _ f c.from.ensures
     ∙ sym (damaged given.checked given.fit.g given.allowance f c.decided-course.result (sym asked ∙ c.if-eq.true))
     ∙ ap (on_course given.checked given.fit.g given.allowance f) c.decided-course.ensures.0
 

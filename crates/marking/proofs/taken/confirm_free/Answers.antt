@@ -45,5 +45,5 @@ returns c =
 pub returns-then-not-is_confirmable : goal.returns-then-not-is_confirmable
 returns-then-not-is_confirmable c =
     let given = c.args in
-    λ x1 x2. confirm_refused given.fit.g given.slot0.now x1 x2 c.refuse.result
-    (sym c.is_confirmable.ensures ∙ c.if-not-is_confirmable.true) c.refuse.ensures
+    λ x1 x2. confirm_refused given.fit.g given.slot0.now x1 x2 c.from.result
+    (sym c.is_confirmable.ensures ∙ c.if-not-is_confirmable.true) c.from.ensures

@@ -30,5 +30,5 @@ returns c =
 pub returns-then-not-is_unmarked : goal.returns-then-not-is_unmarked
 returns-then-not-is_unmarked c =
     let given = c.args in
-    λ x0 x2. marks_refused given.fit.g x0 given.slot1.now x2 c.refuse.result given.permanent
-    (sym c.is_unmarked.ensures ∙ c.if-not-is_unmarked.true) c.refuse.ensures
+    λ x0 x2. marks_refused given.fit.g x0 given.slot1.now x2 c.from.result given.permanent
+    (sym c.is_unmarked.ensures ∙ c.if-not-is_unmarked.true) c.from.ensures
