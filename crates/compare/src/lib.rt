@@ -21,6 +21,7 @@ fn common_bits(bytes: &[u8]) -> u8
 }
 
 // Whether the size bytes from at on are all there and all 0xff.
+// stays: a place and a size beside the area: `part` in the promises of `all_blank` and `stands` takes any numbers.
 pub fn all_blank(area: &[u8], at: usize, size: usize) -> bool
     ensures { result ≡ same (part area.now at size) (blank size) }
 {

@@ -4,6 +4,7 @@
 ghost use Rattle.std.specs.Prelude.{◌≡◌, ◌+◌, ◌<◌, ◌≤◌, length};
 ghost use Rattle.fields.specs.Fields.{field};
 
+// stays: two functions: `from_le_bytes` is of no trait, so that one over the width would add up bytes by hand.
 #[tactic(auto, using(crate::specs::FieldLaws::field_two))]
 pub fn two(s: &[u8], at: usize) -> usize
     requires { at + 2 ≤ length s.now }

@@ -33,6 +33,7 @@ fn from_sector(g: Geometry, area: &[u8], i: Sector) -> &[u8]
 
 impl<'a> Trailer<'a> {
     // That of a slot, and that of scratch.
+    // stays: two: each promises the place by the definition of its own area (`trailer_sector`), and the two share `from_sector`.
     #[tactic(auto, unfolding(flash::specs::Base::base))]
     pub fn of_slot(g: Geometry, slot: &'a [u8]) -> Trailer<'a>
         requires { Small g }

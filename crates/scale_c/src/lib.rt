@@ -1,4 +1,5 @@
 // The C boundary: include/scale.h has the C side. Each function passes its arguments on to that of its name in `scale`, and promises the same.
+// stays: a function for each of `scale`: C needs these names, and a crate is a library or, as this one, a static library.
 #![tactic(auto)]
 
 ghost use Rattle.std.specs.Prelude.{◌≡◌};

@@ -21,14 +21,14 @@ pub fn fill(area: &mut [u8], at: usize, size: usize)
     ensures { area.new ≡ put area.old at (blank size) }
 {
     let span = there(area.len(), at, size);
-    // (the library's `fill` stores the last byte apart, which takes a power-up 16 to 48 bytes more of stack)
+    // stays: no `fill` of the library, which stores the last byte apart and takes a power-up 16 to 48 bytes more of stack.
     for byte in area[span].iter_mut() {
         *byte = 255;
     }
 }
 
-// The bytes go to the front of area, as far as it reaches. Of what a `for` writes through `iter_mut().zip(..)` a proof learns nothing, so
-// they are written by number; copy_from_slice would be a call of memcpy, and the archive needs memset alone.
+// The bytes go to the front of area, as far as it reaches.
+// stays: by number: of what a `for` writes through `iter_mut().zip(..)` a proof learns nothing, and copy_from_slice is a call of memcpy.
 fn overwrite(area: &mut [u8], bytes: &[u8])
     ensures { area.new ≡ put area.old 0 bytes.now }
 {
@@ -38,6 +38,7 @@ fn overwrite(area: &mut [u8], bytes: &[u8])
 }
 
 // The size bytes of src from from on go to dst from at on.
+// stays: places and a size beside the slices, as in `fill` and `copy_blank`: `put` and `part` in their promises take any numbers.
 pub fn copy(src: &[u8], from: usize, dst: &mut [u8], at: usize, size: usize)
     ensures { dst.new ≡ put dst.old at (part src.now from size) }
 {
