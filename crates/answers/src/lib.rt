@@ -30,6 +30,7 @@ pub enum Refusal {
 }
 
 // How a power-up ends.
+// stays: three cases, each with a name: a Result would hide the stop in an Ok or an Err.
 #[derive(Clone, Copy)]
 pub enum Outcome {
     Boot(usize),

@@ -6,7 +6,7 @@ use crate::{Answer, Marked, Outcome, Refusal};
 use plan::Done;
 
 // The answer of a start; a field that does not apply is 0.
-// stays: numbers for what was done, the end and the refusal are the C interface (`scale_answer` of include/scale.h).
+// stays: numbers, here and in `MarkNumbers`: they are the C interface (`scale_answer` and `scale_marked` of include/scale.h).
 #[repr(C)]
 #[derive(Clone, Copy)]
 pub struct Numbers {
@@ -27,7 +27,7 @@ pub struct MarkNumbers {
     pub count: u64,
 }
 
-// stays: no From, as both `Done` and u64 are of other crates.
+// stays: a From would stand in plan, which holds definitions alone, and done(..) reads as plainly.
 fn done(done: Done) -> u64
     ensures { result ≡ done_number done }
 {
@@ -72,6 +72,7 @@ impl From<Answer> for Numbers {
     ghost from_gives = { λ answer numbers. numbers ≡ answer_numbers answer };
 
     fn from(answer: Answer) -> Numbers {
+        // stays: `as`, here and below: std has no `From<usize>` for u64, and TryFrom's Err, which never comes, would want an answer.
         let booted = Numbers {
             done: done(answer.done),
             found: answer.found as u64,

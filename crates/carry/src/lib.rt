@@ -16,7 +16,8 @@ use marks::Trailer;
 use plan::Course;
 use trailer::Mark;
 
-// stays: three parameters for the areas, here and in moves: a struct of three &mut wants three clauses more (`.ghost_name`) of each function.
+// stays: three parameters for the areas, here, in moves, loader, marking and decision: a struct of three `&mut` wants three clauses more
+// (`.ghost_name`) of each function, and those that read alone are called beside these with the same three.
 
 // Lines 3 to 6 of the trailer exchange.
 #[tactic(auto, unfolding(flash::specs::Base::base))]
@@ -111,6 +112,7 @@ pub fn carry_out(
         ≡ steps (build g) (list_of (build g) (ok_unset (build g) (flash_of slot0.old slot1.old scratch.old))
         course) (state slot0.old slot1.old scratch.old run) }
 {
+    // stays: a match, no closures: the lists are those of the definitions' enum, and a closure would have to borrow the three areas.
     match course {
         Course::FromLineThree(lasting) => from_line_three(g, slot0, slot1, scratch, lasting, run),
         Course::Resume(c) => moves::data_exchange(g, c, slot0, slot1, scratch, run),

@@ -13,7 +13,8 @@ fn window(area: &[u8], at: usize, size: usize) -> Option<&[u8]>
     area.get(at..).unwrap_or(&[]).get(..size)
 }
 
-// The bits that are 1 in each byte. A fold, and no search for the first byte with a 0: that becomes vector code.
+// The bits that are 1 in each byte.
+// stays: a fold, no `all(..)`: the compiler makes vector code of a fold, and none of a search for the first byte that has a 0.
 fn common_bits(bytes: &[u8]) -> u8
     ensures { result ≡ fold bit_and 255 bytes.now }
 {
@@ -29,6 +30,7 @@ pub fn all_blank(area: &[u8], at: usize, size: usize) -> bool
 }
 
 // The bits in which a byte differs from the one that is wanted.
+// stays: a fold, no `==` of slices: that is a call of memcmp, and the archive needs memset alone (tests/c/run).
 fn differing_bits(bytes: &[u8], want: &[u8]) -> u8
     ensures { result ≡ fold (λ d p. bit_or d (bit_xor p.0 p.1)) 0 (zip bytes.now want.now) }
 {

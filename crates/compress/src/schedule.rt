@@ -54,7 +54,7 @@ fn load(block: &[u8], w: &mut [u32; 64])
 }
 
 // The schedule of the block at at, made in w, whose words may be any.
-// stays: the place beside the bytes, which the promise of this public function names: `words 4 16 (drop at bytes.now)`.
+// stays: the place beside the bytes, which the promise in docs/PROMISES.md names: `words 4 16 (drop at bytes.now)`.
 pub fn of_block(bytes: &[u8], at: usize, w: &mut [u32; 64])
     requires { (at + 64 ≤ length bytes.now) × (length w.old ≡ 64) }
     ensures { (w.new ≡ schedule (words 4 16 (drop at bytes.now)) 48) × (length w.new ≡ 64) }

@@ -20,7 +20,6 @@ use trailer::{Magic, Mark};
 
 #[tactic(auto, unfolding(plan::specs::Decision::step_a, trailer::specs::Trailer::is_unset, trailer::specs::Trailer::has_value))]
 fn step_a(t2: Trailer) -> Course
-    requires { Small t2.g }
     ensures { result ≡ step_a (build t2.entry.g) t2.entry.bytes.now }
 {
     match t2.image_ok() {
@@ -42,6 +41,6 @@ pub fn asks(g: Geometry, slot0: &[u8], slot1: &[u8], scratch: &[u8]) -> Course
     if t2.magic() == Magic::Good {
         step_a(t2)
     } else {
-        step_b(t0, state_c(t0, t1))
+        step_b(t0, state_c(t0, t1.bytes))
     }
 }

@@ -24,7 +24,6 @@ fn follow(g: Geometry, c: usize, otherwise: Course) -> Course
 }
 
 fn continue_run(t0: Trailer, c: usize, otherwise: Course) -> Course
-    requires { Small t0.g }
     ensures { result ≡ continue (build t0.entry.g) t0.entry.bytes.now c otherwise }
 {
     if t0.legal_run(c) {
@@ -37,7 +36,6 @@ fn continue_run(t0: Trailer, c: usize, otherwise: Course) -> Course
 // Whether B reads the marks.
 #[tactic(auto, unfolding(trailer::specs::Trailer::is_good, trailer::specs::Trailer::is_unset))]
 fn is_unfinished(t0: Trailer) -> bool
-    requires { Small t0.g }
     ensures { result ≡ marks_read (build t0.entry.g) t0.entry.bytes.now }
 {
     t0.magic() == Magic::Good && t0.copy_done() == Mark::Unset
@@ -46,7 +44,6 @@ fn is_unfinished(t0: Trailer) -> bool
 // otherwise is the course of C, for where no exchange is under way.
 #[tactic(auto, unfolding(plan::specs::Decision::step_b))]
 pub fn step_b(t0: Trailer, otherwise: Course) -> Course
-    requires { Small t0.g }
     ensures { result ≡ step_b (build t0.entry.g) t0.entry.bytes.now otherwise }
 {
     if is_unfinished(t0) {

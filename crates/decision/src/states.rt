@@ -12,18 +12,19 @@ use trailer::{Magic, Mark};
 // Whether the firmware in slot 0 is there on trial, and nobody has confirmed it.
 #[tactic(auto, unfolding(trailer::specs::Trailer::is_good, trailer::specs::Trailer::is_unset, trailer::specs::Trailer::has_value))]
 fn is_on_trial(t0: Trailer) -> bool
-    requires { Small t0.g }
     ensures { result ≡ on_trial (build t0.entry.g) t0.entry.bytes.now }
 {
     t0.magic() == Magic::Good && t0.image_ok() == Mark::Unset && t0.copy_done() == Mark::Value(1)
 }
 
 #[tactic(auto, using(crate::specs::StateLaws::revert_by), unfolding(plan::specs::Decision::state_c, trailer::specs::Trailer::is_good, trailer::specs::Trailer::is_no_magic, trailer::specs::Trailer::is_unset, trailer::specs::Trailer::has_value))]
-pub fn state_c(t0: Trailer, t1: Trailer) -> Course
-    requires small { Small t0.g }
-    requires same { t1.g ≡ t0.g }
-    ensures { result ≡ state_c (build t0.entry.g) t0.entry.bytes.now t1.entry.bytes.now }
+pub fn state_c(t0: Trailer, slot1: &[u8]) -> Course
+    ensures { result ≡ state_c (build t0.entry.g) t0.entry.bytes.now slot1.now }
 {
+    let t1 = Trailer {
+        g: t0.g,
+        bytes: slot1,
+    };
     match (t1.magic(), t1.image_ok()) {
         // State I, state II, state III.
         (Magic::Good, Mark::Unset) => Course::Test,

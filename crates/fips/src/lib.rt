@@ -5,7 +5,7 @@ ghost use Rattle.std.specs.Prelude.{◌≡◌, ◌+◌, ◌%◌, ◌≤◌, ◌<
 ghost use Rattle.spans.specs.Bytes.{part, put};
 ghost use Rattle.spans.specs.Words.{number, bytes_of};
 
-// stays: the place beside the bytes, which the promise of this public function names: `number (part bytes.now at 4)`.
+// stays: the place beside the bytes, which the promise in docs/PROMISES.md names: `number (part bytes.now at 4)`.
 pub fn word(bytes: &[u8], at: usize) -> u32
     requires { at + 4 ≤ length bytes.now }
     ensures { result ≡ number (part bytes.now at 4) }
@@ -13,7 +13,7 @@ pub fn word(bytes: &[u8], at: usize) -> u32
     u32::from_be_bytes([bytes[at], bytes[at + 1], bytes[at + 2], bytes[at + 3]])
 }
 
-// stays: the place beside the bytes, which the promise of this public function names: `put area.old at (bytes_of 4 x)`.
+// stays: the place beside the bytes, which the promise in docs/PROMISES.md names: `put area.old at (bytes_of 4 x)`.
 pub fn put_word(area: &mut [u8], at: usize, x: u32)
     requires { at + 4 ≤ length area.old }
     ensures { area.new ≡ put area.old at (bytes_of 4 x) }

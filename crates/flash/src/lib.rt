@@ -54,7 +54,10 @@ pub struct Run {
 }
 
 // The named functions that turn one kind of number into another.
-// stays: `requires Small self`, and of public functions above: docs/PROMISES.md names them, and a type like `fit::Fit` would be narrower.
+// stays: `requires Small self`, here and in public functions of the crates above this one: docs/PROMISES.md names them, and a narrower type
+// asks more. Private ones beside them ask it too, since each public one would first have to wrap its geometry.
+// stays: the bounds of a number, and a function for each kind of it: document 01 wants tuple structs and named functions, and a tuple struct
+// has no invariant.
 impl Geometry {
     pub fn start_of(self, i: Sector) -> Offset
         requires small { Small self }

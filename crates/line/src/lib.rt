@@ -8,6 +8,7 @@ use std::fmt;
 #[derive(Clone, Copy)]
 pub struct Line(pub Answer);
 
+// stays: no Display of Done, which is of plan, and plan holds definitions alone.
 fn word(done: Done) -> &'static str {
     match done {
         Done::None => "none",

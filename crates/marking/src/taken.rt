@@ -19,6 +19,7 @@ use trailer::{Magic, Mark};
 fn standing_of(course: Course) -> Result<(), Refusal>
     ensures { result ≡ standing_of course }
 {
+    // stays: a match, no closures: it tells what an enum of the definitions comes to, and runs nothing.
     match course {
         Course::Damage => Err(Refusal::Damage),
         Course::FromLineThree(_) | Course::Resume(_) => Err(Refusal::UnderWay),
@@ -67,6 +68,7 @@ fn is_unmarked(fit: Fit, slot1: &[u8]) -> bool
     t.image_ok() == Mark::Unset && t.magic() == Magic::Unset
 }
 
+// stays: decision's `is_on_trial` asks the same three: one function for both would be public, with promises of its own, for one line.
 fn is_confirmable(fit: Fit, slot0: &[u8]) -> bool
     ensures { result ≡ confirmable fit.g (flash_of slot0.now [] []) }
 {
@@ -78,6 +80,7 @@ fn is_confirmable(fit: Fit, slot0: &[u8]) -> bool
 fn mark_writes(fit: Fit, permanent: bool) -> u64
     ensures { result ≡ length (ok_ops (build fit.g) Area.slot1 permanent ++ magic_ops (build fit.g) Area.slot1) }
 {
+    // stays: `as`: std has no `From<usize>` for u64, and TryFrom's Err, which never comes, would want an answer.
     let magic = fit.g.units_in(Bytes(16)).0 as u64;
     if permanent { 1 + magic } else { magic }
 }

@@ -19,6 +19,7 @@ pub mod progress;
 pub struct Trailer<'a> {
     pub g: Geometry,
     pub bytes: &'a [u8],
+    ghost small: { Small g },
 }
 
 // The bytes of an area from a sector on: for its last sector, the bytes of that.

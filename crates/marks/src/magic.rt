@@ -37,7 +37,6 @@ fn words_at(bytes: &[u8], place: Offset) -> Magic
 impl<'a> Trailer<'a> {
     #[inline]
     pub fn magic(self) -> Magic
-        requires { Small self.g }
         ensures { result ≡ magic_of (build self.entry.g) self.entry.bytes.now }
     {
         words_at(self.bytes, Part::Magic.place(self.g))

@@ -13,8 +13,7 @@ impl<'a> Trailer<'a> {
     // What the unit at a place says as a mark.
     #[tactic(auto, unfolding(flash::specs::Base::base))]
     pub fn mark_in(self, place: Offset) -> Mark
-        requires small { Small self.g }
-        requires place_le_sector { place.0 ≤ self.g.sector }
+        requires { place.0 ≤ self.g.sector }
         ensures { result ≡ mark_of (build self.entry.g) self.entry.bytes.now place }
     {
         let at = place.0;
@@ -28,9 +27,9 @@ impl<'a> Trailer<'a> {
         }
     }
 
+    // stays: image ok and copy done by two names: who asks promises by `ok_at` or `copy_done_at`, and both are one line over `mark_in`.
     #[tactic(auto, unfolding(flash::specs::Base::base))]
     pub fn image_ok(self) -> Mark
-        requires { Small self.g }
         ensures { result ≡ mark_of (build self.entry.g) self.entry.bytes.now (ok_at (build self.entry.g)) }
     {
         self.mark_in(Part::ImageOk.place(self.g))
@@ -38,7 +37,6 @@ impl<'a> Trailer<'a> {
 
     #[tactic(auto, unfolding(flash::specs::Base::base))]
     pub fn copy_done(self) -> Mark
-        requires { Small self.g }
         ensures { result ≡ mark_of (build self.entry.g) self.entry.bytes.now (copy_done_at (build self.entry.g)) }
     {
         self.mark_in(Part::CopyDone.place(self.g))

@@ -22,9 +22,8 @@ pub fn mark_place(g: Geometry, k: usize) -> Offset
 
 impl<'a> Trailer<'a> {
     // Progress mark number k, in reading order.
-    pub fn progress(self, k: usize) -> Mark
-        requires small { Small self.g }
-        requires k_bound { k < 3 * self.g.sectors }
+    fn progress(self, k: usize) -> Mark
+        requires { k < 3 * self.g.sectors }
         ensures { result ≡ mark_of (build self.entry.g) self.entry.bytes.now (mark_at (build self.entry.g) k) }
     {
         self.mark_in(mark_place(self.g, k))
@@ -32,7 +31,6 @@ impl<'a> Trailer<'a> {
 
     // How many marks stand before the first that is Unset.
     pub fn written_marks(self) -> usize
-        requires { Small self.g }
         ensures { result ≡ written (build self.entry.g) self.entry.bytes.now 0 (3 * self.entry.g.sectors) }
     {
         let all = 3 * self.g.sectors;
@@ -47,10 +45,10 @@ impl<'a> Trailer<'a> {
     // Whether mark number k is as a run of c marks has it: 01, 02 and 03 in turn, then Unset.
     #[tactic(auto, unfolding(flash::specs::Base::base, trailer::specs::Trailer::is_unset, trailer::specs::Trailer::has_value))]
     fn mark_fits(self, c: usize, k: usize) -> bool
-        requires small { Small self.g }
-        requires k_bound { k < 3 * self.g.sectors }
+        requires { k < 3 * self.g.sectors }
         ensures { result ≡ fits_run (build self.entry.g) self.entry.bytes.now c k }
     {
+        // stays: `as`: it is 1, 2 or 3, and the Err of u8::try_from, which never comes, would want an answer.
         if k < c {
             self.progress(k) == Mark::Value(1 + (k % 3) as u8)
         } else {
@@ -60,7 +58,6 @@ impl<'a> Trailer<'a> {
 
     // Whether the marks are those of a run of c marks.
     pub fn legal_run(self, c: usize) -> bool
-        requires { Small self.g }
         ensures { result ≡ legal (build self.entry.g) self.entry.bytes.now c 0 (3 * self.entry.g.sectors) }
     {
         for k in 0..3 * self.g.sectors {

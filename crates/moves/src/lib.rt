@@ -54,6 +54,7 @@ fn one_move(
         (state slot0.old slot1.old scratch.old run) }
 {
     let i = marked_sector(g, k);
+    // stays: a match, no closures: each arm lends other areas, and what is done with them stands once, in `move_sector`.
     match k % 3 {
         0 => move_sector(g, slot1, i, scratch, Sector(0), run),
         1 => move_sector(g, slot0, i, slot1, i, run),

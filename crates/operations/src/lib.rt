@@ -73,7 +73,7 @@ fn blank_units(g: Geometry, area: &[u8], u: Unit, n: Units) -> Units
 }
 
 // How many units an allowance reaches.
-// stays: `as`: no From leads from u64 to usize or back, and TryFrom's Err, which never comes, would want an answer.
+// stays: `as`, here and in `settled`: no From leads from u64 to usize or back, and TryFrom's Err, which never comes, would want an answer.
 fn reach(left: u64, units: Units) -> Units
     ensures { result.0 ≡ min left units.0 }
 {
@@ -176,7 +176,7 @@ fn copy_units(
 }
 
 // The same after whatever came before.
-// stays: an offset beside src, a unit beside dst: `write_all_in`, `part` and `put` take any, and behind an area's end there is no slice.
+// stays: an offset beside src, a unit beside dst, as in the functions above: `write_all_in`, `part` and `put` take any, and behind an area's end there is no slice.
 #[tactic(auto, using(crate::specs::UnitLaws::ended_run))]
 pub fn write_units(
     g: Geometry,

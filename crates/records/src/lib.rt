@@ -71,8 +71,9 @@ impl Digests {
 }
 
 // The first record, and then the rest of the area by the same rule: whether the records fill the area, which stands at `at` of the
-// image. Those of type 1 are added to the digests met before. The area and the digests are lent on in the caller's place, and the answer
-// is a bool: so the call is the last act, and the compiler needs no stack for a record.
+// image. Those of type 1 are added to the digests met before.
+// stays: a bool, and the digests beside it: so the call is the last act, a jump; a Result takes 48 bytes of stack for each record, and
+// there may be 16,375 (fixed memory). And a recursion, which document 01 asks for.
 #[tactic(auto, using(crate::specs::RecordLaws::whole_of, crate::specs::WalkLaws::walk_end, crate::specs::WalkLaws::walk_stump))]
 fn walk(area: &mut &[u8], at: usize, digests: &mut Digests) -> bool
     requires { (digests.old.count ≤ at) × (at + length area.old.now < 2 ^ 64) }

@@ -7,11 +7,12 @@ ghost use Rattle.fips.specs.Fips.{pad};
 fn bit_length(size: usize) -> [u8; 8]
     ensures { result ≡ bytes_of 8 (8 * size) }
 {
+    // stays: `as`: std has no `From<usize>` for u64, and TryFrom's Err, which never comes, would want an answer.
     (size as u64).wrapping_mul(8).to_be_bytes()
 }
 
 // The last blocks of the padded message, those behind the message's own whole blocks. They are made in tail.
-// Apart from digest, whose own array tail is, the copy stays a loop: there it would be a call of memcpy, and the archive needs memset alone.
+// Not inlined: in digest, whose own array tail is, the copy would become a call of memcpy, and the archive needs memset alone.
 #[inline(never)]
 pub fn finish<'a>(message: &[u8], tail: &'a mut [u8; 128]) -> &'a [u8]
     requires { tail.old ≡ replicate 128 0 }

@@ -21,14 +21,15 @@ pub fn fill(area: &mut [u8], at: usize, size: usize)
     ensures { area.new ≡ put area.old at (blank size) }
 {
     let span = there(area.len(), at, size);
-    // stays: no `fill` of the library, which stores the last byte apart and takes a power-up 16 to 48 bytes more of stack.
+    // stays: no `fill`: it takes a power-up 16 to 48 bytes more of stack, which a firmware has to set aside (fixed memory).
     for byte in area[span].iter_mut() {
         *byte = 255;
     }
 }
 
 // The bytes go to the front of area, as far as it reaches.
-// stays: by number: of what a `for` writes through `iter_mut().zip(..)` a proof learns nothing, and copy_from_slice is a call of memcpy.
+// stays: by number: of what a `for` writes through `iter_mut().zip(..)` a proof learns nothing, and
+// copy_from_slice is a call of memcpy, where the archive needs memset alone (tests/c/run).
 fn overwrite(area: &mut [u8], bytes: &[u8])
     ensures { area.new ≡ put area.old 0 bytes.now }
 {

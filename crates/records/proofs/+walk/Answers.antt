@@ -1,19 +1,10 @@
-use Rattle.std.proofs.Common.{◌≡◌, sym, ◌+◌, arith}
+use Rattle.std.proofs.Common.{◌≡◌, sym, ◌+◌}
 use Rattle.records.specs.Records.{step_at}
-use Rattle.records.specs.RecordLaws.{whole_of, rest_is, length_rest}
+use Rattle.records.specs.RecordLaws.{rest_is}
 use Rattle.records.specs.WalkLaws.{on_digest, on_other}
 use Rattle.records.specs.declared.Step.TheVariants.{Record}
 use Rattle.records.proofs.+walk.Goals.{then-kind-eq-DIGEST, else-kind-eq-DIGEST}
 use Rattle.records.proofs.+walk.Goals as goal
-
-pub walk-requires : goal.walk-requires
-walk-requires t c =
-    let w = whole_of _ 0 _ _ _ (sym c.in-Record.ensures) in
-    let shorter = length_rest c.args.area.now.now (c.in-Record.start + c.in-Record.size) in
-    elim c.if-kind-eq-DIGEST.branch [
-      | then-kind-eq-DIGEST b ↦ rw b.digests-is (omega arith)
-      | else-kind-eq-DIGEST b ↦ rw b.digests-is (omega arith)
-    ]
 
 pub returns-after-kind-eq-DIGEST : goal.returns-after-kind-eq-DIGEST
 returns-after-kind-eq-DIGEST t c =

@@ -9,7 +9,7 @@ unfolding base
 returns-then-all_blank c =
     let t = c.args.self in
     let none = sym c.all_blank.ensures ∙ c.if-all_blank.true in
-    let reads = mark_reads (build t.g) t.bytes.now c.args.place c.requires.small.positive in
+    let reads = mark_reads (build t.g) t.bytes.now c.args.place c.args.self.small.positive in
     rw (reads, none)
 
 pub returns-then-all_blank-2 : goal.returns-then-all_blank-2
@@ -18,7 +18,7 @@ returns-then-all_blank-2 c =
     let t = c.args.self in
     let some = sym c.all_blank.ensures ∙ c.if-all_blank.false in
     let whole = sym c.all_blank-else-all_blank.ensures ∙ c.if-all_blank-2.true in
-    let reads = mark_reads (build t.g) t.bytes.now c.args.place c.requires.small.positive in
+    let reads = mark_reads (build t.g) t.bytes.now c.args.place c.args.self.small.positive in
     let first : c.unwrap_or.result ≡ get_or t.bytes.now c.args.place.0 0 = search rules in
     rw (reads, some, whole) (ap Mark.Value first)
 
@@ -28,5 +28,5 @@ returns-else-all_blank-2 c =
     let t = c.args.self in
     let some = sym c.all_blank.ensures ∙ c.if-all_blank.false in
     let torn = sym c.all_blank-else-all_blank.ensures ∙ c.if-all_blank-2.false in
-    let reads = mark_reads (build t.g) t.bytes.now c.args.place c.requires.small.positive in
+    let reads = mark_reads (build t.g) t.bytes.now c.args.place c.args.self.small.positive in
     rw (reads, some, torn)
