@@ -1,7 +1,6 @@
 // C: the states of document 003, by the trailer sectors t0 of slot 0 and t1 of slot 1.
 ghost use Rattle.std.specs.Prelude.{◌≡◌};
 ghost use Rattle.flash.specs.Base.{build};
-ghost use Rattle.flash.specs.Small.{Small};
 ghost use Rattle.plan.specs.Decision.{state_c};
 ghost use Rattle.decision.specs.StateLaws.{on_trial};
 

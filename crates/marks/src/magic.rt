@@ -1,7 +1,6 @@
 // The magic words.
 ghost use Rattle.std.specs.Prelude.{◌≡◌};
 ghost use Rattle.flash.specs.Base.{build};
-ghost use Rattle.flash.specs.Small.{Small};
 ghost use Rattle.flash.specs.Build.{Build};
 ghost use Rattle.trailer.specs.Trailer.{magic_at, magic_bytes, magic_of};
 

@@ -1,7 +1,6 @@
 // Marks of one unit: any, image ok, copy done.
 ghost use Rattle.std.specs.Prelude.{◌≡◌, ◌≤◌};
 ghost use Rattle.flash.specs.Base.{build};
-ghost use Rattle.flash.specs.Small.{Small};
 ghost use Rattle.trailer.specs.Trailer.{mark_of, ok_at, copy_done_at};
 
 use crate::Trailer;
