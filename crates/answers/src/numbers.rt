@@ -59,6 +59,7 @@ impl From<Refusal> for u64 {
 }
 
 // The number of the cause that the check gave, if it is what refused.
+// stays: no From, which for a u64 is the number of the refusal itself.
 fn cause(refusal: Refusal) -> u64
     ensures { result ≡ refusal_cause refusal }
 {

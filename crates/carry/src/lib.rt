@@ -16,8 +16,8 @@ use marks::Trailer;
 use plan::Course;
 use trailer::Mark;
 
-// stays: three parameters for the areas, here, in moves, loader, marking and decision: a struct of three `&mut` wants three clauses more
-// (`.ghost_name`) of each function, and those that read alone are called beside these with the same three.
+// stays: three parameters for the areas, with g and run beside them, here, in moves, loader, marking and decision: a struct of three `&mut`
+// wants three clauses more (`.ghost_name`) of each function, and those that read alone are called beside these with the same three.
 
 // Lines 3 to 6 of the trailer exchange.
 #[tactic(auto, unfolding(flash::specs::Base::base))]

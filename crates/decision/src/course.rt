@@ -30,7 +30,7 @@ pub fn judge(accepted: bool, course: Course) -> Course
 pub fn done_of(course: Course) -> Done
     ensures { result ≡ done_of course }
 {
-    // stays: a match, no closures: it tells what an enum of the definitions comes to, and runs nothing.
+    // stays: a match, no closures, here and in `found_of`: they tell what an enum of the definitions comes to, and run nothing.
     match course {
         Course::Damage | Course::Nothing => Done::None,
         Course::FromLineThree(_) | Course::Resume(_) => Done::Resumed,

@@ -40,6 +40,7 @@ pub fn standing(g: Geometry, slot0: &[u8], slot1: &[u8], scratch: &[u8]) -> Resu
     Ok(fit)
 }
 
+// stays: no From, as neither an End nor a Result is of this crate.
 #[tactic(auto, unfolding(crate::specs::Marking::ending_of))]
 fn ending_of(end: End) -> Result<(), Refusal>
     ensures { result ≡ ending_of end }

@@ -10,6 +10,7 @@ use flash::{Geometry, Offset, Unit, Units};
 use trailer::Mark;
 
 // Where mark number k stands in the trailer sector.
+// stays: the bound of a mark number, here, in writes and in moves: document 01 wants plain numbers for marks.
 pub fn mark_place(g: Geometry, k: usize) -> Offset
     requires small { Small g }
     requires k_bound { k < 3 * g.sectors }

@@ -36,7 +36,7 @@ impl From<Step> for RecordNumbers {
             Step::Record { kind, start, size } => RecordNumbers {
                 found: 1,
                 kind: u64::from(kind),
-                // stays: `as`: std has no `From<usize>` for u64, and TryFrom's Err would want an answer.
+                // stays: `as`, twice: std has no `From<usize>` for u64, and TryFrom's Err would want an answer.
                 start: start as u64,
                 size: size as u64,
             },

@@ -36,7 +36,7 @@ pub fn scale_record_at(records: &[u8], at: usize) -> RecordNumbers
     RecordNumbers::from(record_reader::record_at(records, at))
 }
 
-// stays: the three numbers go side by side in each function below, as the C interface has them.
+// stays: the three numbers and the three areas go side by side in each function below, as the C interface has them.
 fn geometry(unit: usize, sector: usize, sectors: usize) -> Geometry
     ensures { result ≡ geometry_of unit sector sectors }
 {

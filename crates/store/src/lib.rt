@@ -29,7 +29,7 @@ pub fn fill(area: &mut [u8], at: usize, size: usize)
 
 // The bytes go to the front of area, as far as it reaches.
 // stays: by number: of what a `for` writes through `iter_mut().zip(..)` a proof learns nothing, and
-// copy_from_slice is a call of memcpy, where the archive needs memset alone (tests/c/run).
+// copy_from_slice of a length that the compiler does not know is a call of memcpy, where the archive needs memset alone (tests/c/run).
 fn overwrite(area: &mut [u8], bytes: &[u8])
     ensures { area.new ≡ put area.old 0 bytes.now }
 {
