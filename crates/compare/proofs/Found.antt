@@ -1,15 +1,16 @@
 -- The bytes that `get` gives, and what is seen of them.
-use Rattle.std.specs.Prelude.{◌≡◌, refl, List, [], Bool, true, false, ℕ, ◌+◌, ◌-◌, ◌<◌, length, take, drop, get_or, eqb, ltb, Option, None, Some, MatchOption}
+use Rattle.std.specs.Prelude.{◌≡◌, refl, List, [], ◌∷◌, ◌&&◌, Bool, true, false, ℕ, ◌+◌, ◌-◌, ◌<◌, length, take, drop, get_or, eqb, ltb, Option, None, Some, MatchOption}
 use Rattle.std.specs.Borrow.{Bor}
 use Rattle.std.specs.Option.{unwrap_or}
 use Rattle.std.specs.Slice.{IsGetRangeResult}
-use Rattle.std.specs.List.{fold, zip}
-use Rattle.std.specs.Int.Bits.{bit_and, bit_or, bit_xor}
+use Rattle.std.specs.List.{fold}
+use Rattle.std.specs.Cmp.Lexicographic.{pointwise}
+use Rattle.std.specs.Int.Bits.{bit_and}
 use Rattle.std.proofs.Common.{inl, inr, sym, ap, ◌∙◌, arith, length-drop, take_all, drop_of_length-le, get_or-drop, get_or-take, length-take, ltb-true, ltb-false, subst}
 use Rattle.std.proofs.lemmas.List.{get_or_past}
 use Rattle.spans.specs.Bytes.{part, blank, same}
 use Rattle.spans.specs.Laws.{length_blank}
-use Rattle.compare.specs.Folds.{short_part, blank_all, same_all}
+use Rattle.compare.specs.Folds.{short_part, blank_all}
 
 -- the bytes from at on, none beyond the end
 from_on : (xs : List ℕ) (at : ℕ) (rest : Option (Bor (List ℕ))) (none cut : Bor (List ℕ)) → none.now ≡ []
@@ -60,9 +61,16 @@ blank_seen xs at size (Some w) r v (p, l) e =
     e ∙ blank_all w.now 255 (omega arith) (λ i. subst (λ (ys : List ℕ). get_or ys i 0 < 256) (sym p) (part_fits xs at size v i))
     ∙ ap (λ (n : ℕ). same w.now (blank n)) l ∙ ap (λ (ys : List ℕ). same ys (blank size)) p
 
+-- the library's equality of bytes
+pointwise_same : (xs ys : List ℕ) → pointwise eqb xs ys ≡ same xs ys
+unfolding same
+pointwise_same [] [] = refl
+pointwise_same [] (y ∷ ys) = refl
+pointwise_same (x ∷ xs) [] = refl
+pointwise_same (x ∷ xs) (y ∷ ys) = ap (λ (b : Bool). eqb x y && b) (pointwise_same xs ys)
+
 pub same_seen : (xs : List ℕ) (at : ℕ) (want : List ℕ) (found : Option (Bor (List ℕ))) (r : Bool)
     → MatchOption found (length xs - at < length want) (λ w. (w.now ≡ part xs at (length want)) × (length w.now ≡ length want))
-    → MatchOption found (r ≡ false) (λ w. r ≡ eqb (fold (λ d p. bit_or d (bit_xor p.0 p.1)) 0 (zip w.now want)) 0)
-    → r ≡ same (part xs at (length want)) want
+    → MatchOption found (r ≡ false) (λ w. r ≡ pointwise eqb w.now want) → r ≡ same (part xs at (length want)) want
 same_seen xs at want None r h e = e ∙ sym (short_part xs at want (length want) h refl)
-same_seen xs at want (Some w) r (p, l) e = e ∙ same_all w.now want 0 l ∙ ap (λ (ys : List ℕ). same ys want) p
+same_seen xs at want (Some w) r (p, l) e = e ∙ pointwise_same w.now want ∙ ap (λ (ys : List ℕ). same ys want) p
