@@ -1,4 +1,4 @@
-// C: the states of document 003, by the trailer sectors t0 of slot 0 and t1 of slot 1.
+// C: the states of document 003, by the trailer sectors of slot 0 and slot 1.
 ghost use Rattle.std.specs.Prelude.{◌≡◌};
 ghost use Rattle.flash.specs.Base.{build};
 ghost use Rattle.plan.specs.Decision.{state_c};
@@ -16,6 +16,7 @@ fn is_on_trial(t0: Trailer) -> bool
     t0.magic() == Magic::Good && t0.image_ok() == Mark::Unset && t0.copy_done() == Mark::Value(1)
 }
 
+// slot1 is the bytes of slot 1's trailer sector, which has slot 0's geometry.
 #[tactic(auto, using(crate::specs::StateLaws::revert_by), unfolding(plan::specs::Decision::state_c, trailer::specs::Trailer::is_good, trailer::specs::Trailer::is_no_magic, trailer::specs::Trailer::is_unset, trailer::specs::Trailer::has_value))]
 pub fn state_c(t0: Trailer, slot1: &[u8]) -> Course
     ensures { result ≡ state_c (build t0.entry.g) t0.entry.bytes.now slot1.now }
