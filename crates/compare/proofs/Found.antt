@@ -3,14 +3,14 @@ use Rattle.std.specs.Prelude.{◌≡◌, refl, List, [], ◌∷◌, ◌&&◌, Bo
 use Rattle.std.specs.Borrow.{Bor}
 use Rattle.std.specs.Option.{unwrap_or}
 use Rattle.std.specs.Slice.{IsGetRangeResult}
-use Rattle.std.specs.List.{fold}
+use Rattle.std.specs.List.{fold, zip}
 use Rattle.std.specs.Cmp.Lexicographic.{pointwise}
-use Rattle.std.specs.Int.Bits.{bit_and}
+use Rattle.std.specs.Int.Bits.{bit_and, bit_or, bit_xor}
 use Rattle.std.proofs.Common.{inl, inr, sym, ap, ◌∙◌, arith, length-drop, take_all, drop_of_length-le, get_or-drop, get_or-take, length-take, ltb-true, ltb-false, subst}
 use Rattle.std.proofs.lemmas.List.{get_or_past}
 use Rattle.spans.specs.Bytes.{part, blank, same}
 use Rattle.spans.specs.Laws.{length_blank}
-use Rattle.compare.specs.Folds.{short_part, blank_all}
+use Rattle.compare.specs.Folds.{short_part, blank_all, same_all}
 
 -- the bytes from at on, none beyond the end
 from_on : (xs : List ℕ) (at : ℕ) (rest : Option (Bor (List ℕ))) (none cut : Bor (List ℕ)) → none.now ≡ []
@@ -74,3 +74,11 @@ pub same_seen : (xs : List ℕ) (at : ℕ) (want : List ℕ) (found : Option (Bo
     → MatchOption found (r ≡ false) (λ w. r ≡ pointwise eqb w.now want) → r ≡ same (part xs at (length want)) want
 same_seen xs at want None r h e = e ∙ sym (short_part xs at want (length want) h refl)
 same_seen xs at want (Some w) r (p, l) e = e ∙ pointwise_same w.now want ∙ ap (λ (ys : List ℕ). same ys want) p
+
+-- the bits in which they differ, of bytes that are as many: none where they are equal
+pub bits_seen : (short : Type 0) (xs want : List ℕ) (found : Option (Bor (List ℕ))) (r : Bool)
+    → MatchOption found short (λ w. (w.now ≡ xs) × (length w.now ≡ length want))
+    → MatchOption found (r ≡ false) (λ w. r ≡ eqb (fold (λ d p. bit_or d (bit_xor p.0 p.1)) 0 (zip w.now want)) 0)
+    → MatchOption found (r ≡ false) (λ w. r ≡ pointwise eqb w.now want)
+bits_seen short xs want None r h e = e
+bits_seen short xs want (Some w) r (p, l) e = e ∙ same_all w.now want 0 l ∙ sym (pointwise_same w.now want)

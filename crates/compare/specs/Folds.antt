@@ -2,7 +2,7 @@
 use Rattle.std.specs.Prelude.{◌≡◌, refl, List, [], ◌∷◌, ◌++◌, Bool, true, false, ◌&&◌, ℕ, suc, ◌+◌, ◌-◌, ◌<◌, length, get_or, eqb}
 use Rattle.std.proofs.Common.{sym, ap, ap₂, ◌∙◌, add-one, arith, length-take, length-drop, eqb-true, eq-eqb, ne_eqb}
 use Rattle.std.specs.Int.Bits.{bit_and, bit_or, bit_xor, and_self, or_add_and, xor_add_and, xor_self, or_zero_r}
-use Rattle.std.specs.List.{fold}
+use Rattle.std.specs.List.{fold, zip}
 use Rattle.std.proofs.Math.Bool.{and_assoc}
 use Rattle.std.proofs.lemmas.Nat.{and_le_l, and_le_r}
 use Rattle.std.proofs.lemmas.Bool.{eqb-false}
@@ -84,6 +84,16 @@ blank_all (x ∷ xs) all h v =
     blank_all xs (bit_and all x) (omega (arith, and_le_l all x)) (λ i. v (suc i))
     ∙ ap (λ (b : Bool). b && same xs (blank (length xs))) (and_full all x h (v 0))
     ∙ and_assoc (eqb all 255) (eqb x 255) (same xs (blank (length xs)))
+
+pub same_all : (xs ys : List ℕ) (differ : ℕ) → length xs ≡ length ys
+    → eqb (fold (λ d p. bit_or d (bit_xor p.0 p.1)) differ (zip xs ys)) 0 ≡ (eqb differ 0 && same xs ys)
+unfolding same
+same_all [] [] differ h = sym (and_true (eqb differ 0))
+same_all [] (y ∷ ys) differ h = absurd (omega arith)
+same_all (x ∷ xs) [] differ h = absurd (omega arith)
+same_all (x ∷ xs) (y ∷ ys) differ h =
+    same_all xs ys (bit_or differ (bit_xor x y)) (omega arith)
+    ∙ ap (λ (b : Bool). b && same xs ys) (or_none differ x y) ∙ and_assoc (eqb differ 0) (eqb x y) (same xs ys)
 
 -- one byte more, as a loop that counts has it
 pub blank_fold : (xs : List ℕ) (at i all : ℕ) → at + i < length xs → all < 256 → get_or xs (at + i) 0 < 256
