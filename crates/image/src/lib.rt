@@ -15,7 +15,7 @@ fn digest_at(image: &[u8], signed: Signed) -> Result<(), Cause>
     ensures { result ≡ digest_at (Ok signed) image.now }
 {
     let mut digest = [0u8; 32];
-    sha256::digest(&image[..signed.covered], &mut digest);
+    sha256::digest(&image[0..signed.covered], &mut digest);
     if compare::stands(image, signed.digest, &digest) {
         Ok(())
     } else {
