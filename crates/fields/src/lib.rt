@@ -15,7 +15,7 @@ pub fn two(s: &[u8], at: usize) -> usize
     usize::from(u16::from_le_bytes([s[at], s[at + 1]]))
 }
 
-#[tactic(auto, using(crate::specs::FieldLaws::field_four_bytes, crate::specs::FieldLaws::field_four))]
+#[tactic(auto, using(crate::specs::FieldLaws::field_four_bytes))]
 pub fn four(s: &[u8], at: usize) -> usize
     requires { at + 4 ≤ length s.now }
     ensures { (result ≡ field s.now at 4) × (result < 4294967296) }

@@ -15,6 +15,7 @@ fn digest_at(image: &[u8], signed: Signed) -> Result<(), Cause>
     ensures { result ≡ digest_at (Ok signed) image.now }
 {
     let mut digest = [0u8; 32];
+    // (a range with a beginning, which the wrong program `first_byte_not_digested` moves)
     sha256::digest(&image[0..signed.covered], &mut digest);
     if compare::stands(image, signed.digest, &digest) {
         Ok(())
